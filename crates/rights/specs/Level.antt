@@ -1,0 +1,60 @@
+-- Levels as they are computed: offices are marked by rounds from SOA on. That a mark is a rooted chain is a law.
+use Prim.Native.Nat.{ℕ, zero, suc}
+use mathlib.Core.Bool.{Bool, true, false, _&&_, _||_, not, cond}
+use mathlib.Core.List.{List}
+use lib.ListN.{getD}
+use lib.Dec.{eqb, leb}
+use Rattle.rights.specs.declared.Header.{Header}
+use Rattle.rights.specs.Below.{anyBelow, table}
+use Rattle.rights.specs.Permission.{Permission, TT, TF, need}
+use Rattle.rights.specs.Cell.{carries}
+use Rattle.rights.specs.Register.{cell, soaOf}
+
+-- the office is in the set
+unfoldable pub isIn : List Bool → ℕ → Bool
+isIn set x = getD set x false
+
+-- some office of the set has a link to y that carries p
+unfoldable pub linked : Header → List ℕ → Permission → List Bool → ℕ → Bool
+linked h R p set y = anyBelow (h .n) (λ x. isIn set x && carries (cell h R x y) p)
+
+-- The offices that chains of so many links at most reach, with p read at each link, among the offices allowed.
+-- A round adds every allowed office to which a marked one has a link.
+unfoldable pub reached : Header → List ℕ → (ℕ → Bool) → Permission → ℕ → List Bool
+reached h R allowed p zero = table (h .n) (λ y. eqb y (soaOf h) && allowed y)
+reached h R allowed p (suc d) =
+    let before = reached h R allowed p d in
+    table (h .n) (λ y. isIn before y || allowed y && linked h R p before y)
+
+-- 01: 'Level of j: 2 if it holds TT, else 1 if it holds TF, else 0', each by chains among the offices allowed
+unfoldable pub levelsAmong : Header → List ℕ → (ℕ → Bool) → List ℕ
+levelsAmong h R allowed =
+    let whole = reached h R allowed TT (h .n) in
+    let part = reached h R allowed TF (h .n) in
+    table (h .n) (λ j. cond (isIn whole j) 2 (cond (isIn part j) 1 0))
+
+unfoldable pub everyOffice : ℕ → Bool
+everyOffice x = true
+
+unfoldable pub otherThan : ℕ → ℕ → Bool
+otherThan i x = not (eqb x i)
+
+-- the level of each office
+unfoldable pub levels : Header → List ℕ → List ℕ
+levels h R = levelsAmong h R everyOffice
+
+-- 01: 'Independent level of k from i: the level by chains before that do not name i; 0 for i itself, and 0 for all when i is SOA.'
+unfoldable pub independentLevels : Header → List ℕ → ℕ → List ℕ
+independentLevels h R i = levelsAmong h R (otherThan i)
+
+-- the level of office k in a list of levels
+unfoldable pub levelIn : List ℕ → ℕ → ℕ
+levelIn ls k = getD ls k 0
+
+-- SOA holds everything; another office holds p where a grantor whose level is enough for p has a link to it that carries p
+unfoldable pub holdsBy : Header → List ℕ → List ℕ → Permission → ℕ → Bool
+holdsBy h R ls p j = eqb j (soaOf h) || anyBelow (h .n) (λ i. leb (need p) (levelIn ls i) && carries (cell h R i j) p)
+
+-- 01: 'j holds p if such a chain exists', computed from the levels
+unfoldable pub holds : Header → List ℕ → Permission → ℕ → Bool
+holds h R p j = holdsBy h R (levels h R) p j

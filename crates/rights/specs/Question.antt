@@ -1,0 +1,80 @@
+-- The holding question, and the chain that 01 picks (01, 'Refusal numbers').
+use Prim.Native.Nat.{ℕ, zero, suc}
+use mathlib.Core.Bool.{Bool, true, false, _&&_, not, cond}
+use mathlib.Core.List.{List, [], _∷_, _++_}
+use lib.ListN.{length, getD, drop}
+use lib.Dec.{eqb, ltb}
+use Rattle.rights.specs.declared.Header.{Header}
+use Rattle.rights.specs.Below.{anyBelow, firstBelow, table}
+use Rattle.rights.specs.Permission.{Permission, isCode, decoded, passing}
+use Rattle.rights.specs.Cell.{carries}
+use Rattle.rights.specs.Register.{cell, soaOf}
+use Rattle.rights.specs.Level.{isIn, holds}
+use Rattle.rights.specs.Sound.{headed, whole, sound}
+
+-- the set of one office
+unfoldable pub single : Header → ℕ → List Bool
+single h j = table (h .n) (eqb j)
+
+-- the offices with a link, read as p, into the set: one link nearer SOA
+unfoldable pub nearer : Header → List ℕ → Permission → List Bool → List Bool
+nearer h R p set = table (h .n) (λ x. anyBelow (h .n) (λ y. isIn set y && carries (cell h R x y) p))
+
+-- the offices from which so many links, the last read as p and each earlier one as what passes p on, lead into the set
+unfoldable pub linksAway : Header → List ℕ → Permission → ℕ → List Bool → List Bool
+linksAway h R p zero set = set
+linksAway h R p (suc d) set = linksAway h R (passing p) d (nearer h R p set)
+
+-- the fewest links of a chain for p at j; more than n where there is none
+unfoldable pub fewestLinks : Header → List ℕ → Permission → ℕ → ℕ
+fewestLinks h R p j = firstBelow (suc (h .n)) (λ d. isIn (linksAway h R p d (single h j)) (soaOf h))
+
+-- the last office of a chain
+unfoldable pub lastOf : List ℕ → ℕ
+lastOf [] = 0
+lastOf (x ∷ []) = x
+lastOf (x ∷ y ∷ offices) = lastOf (y ∷ offices)
+
+-- The smallest list of offices, so many links long, from SOA into the set: the chain to the set one link nearer SOA, and after
+-- it the smallest office of the set to which its last office has a link.
+unfoldable pub smallest : Header → List ℕ → Permission → ℕ → List Bool → List ℕ
+smallest h R p zero set = soaOf h ∷ []
+smallest h R p (suc d) set =
+    let earlier = smallest h R (passing p) d (nearer h R p set) in
+    earlier ++ (firstBelow (h .n) (λ y. isIn set y && carries (cell h R (lastOf earlier) y) p) ∷ [])
+
+-- 'the chain with fewest links, among those the smallest list compared from SOA on'
+unfoldable pub pickedChain : Header → List ℕ → Permission → ℕ → List ℕ
+pickedChain h R p j = smallest h R p (fewestLinks h R p j) (single h j)
+
+-- 'A holding question checks 1, 2, 3, 4, 6, 11, 12; any perm but 1, 2, 4, 8 is 4'; room is the length of the chain buffer
+unfoldable pub questionRefusal : Header → List ℕ → ℕ → ℕ → ℕ → ℕ
+questionRefusal h R j perm room =
+    cond (not (headed h)) 1
+    (cond (not (whole h R)) 2
+    (cond (not (sound h R)) 3
+    (cond (not (isCode perm)) 4
+    (cond (not (ltb j (h .n))) 6
+    (cond (ltb room (h .n)) 11
+    (cond (not (holds h R (decoded perm) j)) 12 0))))))
+
+-- what a question answers and leaves
+pub record Answer : Type 0 where
+  pub answer : ℕ
+  pub offices : ℕ
+  pub chain : List ℕ
+
+-- the chain at the start of the buffer, 'one byte an office', and 'later bytes stay'
+unfoldable pub shown : List ℕ → List ℕ → Answer
+shown buffer chain = record { answer = 0; offices = length chain; chain = chain ++ drop (length chain) buffer }
+
+-- 'Refused, it leaves the chain buffer unchanged and gives length 0.'
+unfoldable pub notShown : List ℕ → ℕ → Answer
+notShown buffer number = record { answer = number; offices = 0; chain = buffer }
+
+-- the one outcome of a holding question
+unfoldable pub answered : Header → List ℕ → ℕ → ℕ → List ℕ → Answer
+answered h R j perm buffer =
+    cond (eqb (questionRefusal h R j perm (length buffer)) 0)
+    (shown buffer (pickedChain h R (decoded perm) j))
+    (notShown buffer (questionRefusal h R j perm (length buffer)))

@@ -1,0 +1,300 @@
+-- Laws of permissions and of cells as sets of four. What is finite is one test that computes, and a law out of it. Assumes nothing.
+use Prim.Native.Nat.{ℕ, zero, suc, _+_, _≤_, _<_, min}
+use native.Mathlib.Omega.{arith}
+use mathlib.Core.Path.{_≡_, refl, ap, ap₂, sym, _∙_}
+use mathlib.Core.Logic.{_⊎_, inl, inr, ⊎-elim}
+use mathlib.Core.Bool.{Bool, true, false, _&&_, _||_, not, cond, Bool·beq}
+use lib.Dec.{eqb, leb, ltb, lit≤}
+use borrow.Author.Tests.{eqb-true, ltb-false, le-leb, le-ltb}
+use Rattle.rights.specs.Below.{allBelow}
+use Rattle.rights.specs.Permission.{Permission, TT, TF, FT, FF, code, anyPermission, isCode, decoded, entitles, stronger, serves, need, passing}
+use Rattle.rights.specs.Cell.{has, cellOf, size, carries, union, without, lowered, restrict}
+use Rattle.theory.proofs.Tests.{both, left-of, right-of, or-left, or-right, either, fails}
+use Rattle.theory.proofs.Below.{all-at}
+
+-- a test that passes at p passes at some permission
+pub any-permission-from : (f : Permission → Bool) (p : Permission) → f p ≡ true → anyPermission f ≡ true
+unfolding anyPermission
+any-permission-from f TT e = or-left (f FF) (or-left (f FT) (or-left (f TF) e))
+any-permission-from f TF e = or-left (f FF) (or-left (f FT) (or-right (f TT) e))
+any-permission-from f FT e = or-left (f FF) (or-right (f TT || f TF) e)
+any-permission-from f FF e = or-right (f TT || f TF || f FT) e
+
+-- the permission at which a test passes
+pub record Passes (f : Permission → Bool) : Type 0 where
+  pub at : Permission
+  pub passes : f at ≡ true
+
+pub any-permission-found : (f : Permission → Bool) → anyPermission f ≡ true → Passes f
+unfolding anyPermission
+any-permission-found f e =
+    ⊎-elim
+    (λ q. ⊎-elim
+    (λ r. ⊎-elim (λ t. record { at = TT; passes = t }) (λ t. record { at = TF; passes = t }) (either (f TT) (f TF) r))
+    (λ r. record { at = FT; passes = r })
+    (either (f TT || f TF) (f FT) q))
+    (λ q. record { at = FF; passes = q })
+    (either (f TT || f TF || f FT) (f FF) e)
+
+-- the test passes at each permission
+unfoldable pub eachPermission : (Permission → Bool) → Bool
+eachPermission f = f TT && f TF && f FT && f FF
+
+pub each-permission : (f : Permission → Bool) → eachPermission f ≡ true → (p : Permission) → f p ≡ true
+unfolding eachPermission
+each-permission f e TT = left-of (f TT) (f TF) (left-of (f TT && f TF) (f FT) (left-of (f TT && f TF && f FT) (f FF) e))
+each-permission f e TF = right-of (f TT) (f TF) (left-of (f TT && f TF) (f FT) (left-of (f TT && f TF && f FT) (f FF) e))
+each-permission f e FT = right-of (f TT && f TF) (f FT) (left-of (f TT && f TF && f FT) (f FF) e)
+each-permission f e FF = right-of (f TT && f TF && f FT) (f FF) e
+
+beq-same : (a b : Bool) → Bool·beq a b ≡ true → a ≡ b
+beq-same true true e = refl
+beq-same true false e = sym e
+beq-same false true e = e
+beq-same false false e = refl
+
+-- an equation between tests of a cell and a permission: computed at the 16 cells, it holds of each
+pub by-cells :
+    (f g : ℕ → Permission → Bool) →
+    allBelow 16 (λ c. eachPermission (λ p. Bool·beq (f c p) (g c p))) ≡ true →
+    (c : ℕ) (p : Permission) → c ≤ 15 → f c p ≡ g c p
+by-cells f g e c p h =
+    beq-same (f c p) (g c p)
+    (each-permission (λ p. Bool·beq (f c p) (g c p)) (all-at 16 (λ c. eachPermission (λ p. Bool·beq (f c p) (g c p))) e c (omega arith)) p)
+
+-- an equation between permissions
+by-pairs :
+    (f g : Permission → Permission → Bool) →
+    eachPermission (λ q. eachPermission (λ p. Bool·beq (f q p) (g q p))) ≡ true →
+    (q p : Permission) → f q p ≡ g q p
+by-pairs f g e q p =
+    beq-same (f q p) (g q p)
+    (each-permission (λ p. Bool·beq (f q p) (g q p)) (each-permission (λ q. eachPermission (λ p. Bool·beq (f q p) (g q p))) e q) p)
+
+-- The level that holding q alone gives: 2 for TT, 1 for TF.
+unfoldable pub levelOf : Permission → ℕ
+levelOf TT = 2
+levelOf TF = 1
+levelOf FT = 0
+levelOf FF = 0
+
+-- 'entitles' is a matter of levels: q entitles p where the level that q gives is enough for p
+pub entitles-need : (q p : Permission) → entitles q p ≡ leb (need p) (levelOf q)
+unfolding eachPermission entitles need levelOf
+entitles-need = by-pairs entitles (λ q p. leb (need p) (levelOf q)) refl
+
+pub need-low : (p : Permission) → 1 ≤ need p
+unfolding need
+need-low TT = lit≤ tt
+need-low TF = lit≤ tt
+need-low FT = lit≤ tt
+need-low FF = lit≤ tt
+
+pub need-high : (p : Permission) → need p ≤ 2
+unfolding need
+need-high TT = lit≤ tt
+need-high TF = lit≤ tt
+need-high FT = lit≤ tt
+need-high FF = lit≤ tt
+
+enough-at-2 : (p : Permission) (v : ℕ) → leb (need p) (suc (suc v)) ≡ true
+enough-at-2 p v = le-leb (need p) (suc (suc v)) (omega (arith, need-high p))
+
+and-true : (a : Bool) → a && true ≡ a
+and-true true = refl
+and-true false = refl
+
+-- a restricted cell carries p exactly where the cell did and the level is enough for p
+pub carries-restrict : (c v : ℕ) (p : Permission) → c ≤ 15 → carries (restrict c v) p ≡ carries c p && leb (need p) v
+unfolding restrict carries anyPermission serves stronger code has cellOf lowered need eachPermission allBelow
+carries-restrict c zero p h = by-cells (λ c p. carries (restrict c 0) p) (λ c p. carries c p && leb (need p) 0) refl c p h
+carries-restrict c (suc zero) p h = by-cells (λ c p. carries (restrict c 1) p) (λ c p. carries c p && leb (need p) 1) refl c p h
+carries-restrict c (suc (suc v)) p h = sym (rw (enough-at-2 p v) (and-true (carries c p)))
+
+-- a test of permissions by its four values
+member : Bool → Bool → Bool → Bool → Permission → Bool
+member a b c d TT = a
+member a b c d TF = b
+member a b c d FT = c
+member a b c d FF = d
+
+eachBool : (Bool → Bool) → Bool
+eachBool f = f true && f false
+
+each-bool : (f : Bool → Bool) → eachBool f ≡ true → (a : Bool) → f a ≡ true
+unfolding eachBool
+each-bool f e true = left-of (f true) (f false) e
+each-bool f e false = right-of (f true) (f false) e
+
+isMember : Bool → Bool → Bool → Bool → Permission → Bool
+isMember a b c d p = Bool·beq (has (cellOf (member a b c d)) p) (member a b c d p)
+
+has-members : (a b c d : Bool) (p : Permission) → isMember a b c d p ≡ true
+unfolding isMember has cellOf code member eachBool eachPermission
+has-members a b c d =
+    each-permission (isMember a b c d)
+    (each-bool (λ d. eachPermission (isMember a b c d))
+    (each-bool (λ c. eachBool (λ d. eachPermission (isMember a b c d)))
+    (each-bool (λ b. eachBool (λ c. eachBool (λ d. eachPermission (isMember a b c d))))
+    (each-bool (λ a. eachBool (λ b. eachBool (λ c. eachBool (λ d. eachPermission (isMember a b c d))))) refl a) b) c) d)
+
+-- the members of the cell of a test are those that pass it
+pub has-cellOf : (f : Permission → Bool) (p : Permission) → has (cellOf f) p ≡ f p
+unfolding cellOf member isMember
+has-cellOf f p =
+    beq-same (has (cellOf f) p) (member (f TT) (f TF) (f FT) (f FF) p) (has-members (f TT) (f TF) (f FT) (f FF) p) ∙ picked p
+  where
+    picked : (p : Permission) → member (f TT) (f TF) (f FT) (f FF) p ≡ f p
+    picked TT = refl
+    picked TF = refl
+    picked FT = refl
+    picked FF = refl
+
+pub cellOf-ext : (f g : Permission → Bool) → ((p : Permission) → f p ≡ g p) → cellOf f ≡ cellOf g
+unfolding cellOf
+cellOf-ext f g e = rw (e TT, e TF, e FT, e FF)
+
+-- a cell is the cell of its members
+pub cellOf-has : (c : ℕ) → c ≤ 15 → cellOf (has c) ≡ c
+unfolding cellOf has code allBelow
+cellOf-has c h = eqb-true (cellOf (has c)) c (all-at 16 (λ c. eqb (cellOf (has c)) c) refl c (omega arith))
+
+-- cells with the same members are equal
+pub cell-ext : (a b : ℕ) → a ≤ 15 → b ≤ 15 → ((p : Permission) → has a p ≡ has b p) → a ≡ b
+cell-ext a b ha hb e = sym (cellOf-has a ha) ∙ cellOf-ext (has a) (has b) e ∙ cellOf-has b hb
+
+cond-le : (a : Bool) (k : ℕ) → cond a k 0 ≤ k
+cond-le true k = omega arith
+cond-le false k = omega arith
+
+pub cellOf-small : (f : Permission → Bool) → cellOf f ≤ 15
+unfolding cellOf
+cellOf-small f = omega (arith, cond-le (f TT) 8, cond-le (f TF) 4, cond-le (f FT) 2, cond-le (f FF) 1)
+
+pub restrict-small : (c v : ℕ) → c ≤ 15 → restrict c v ≤ 15
+unfolding restrict
+restrict-small c zero h = omega arith
+restrict-small c (suc zero) h = cellOf-small (lowered c)
+restrict-small c (suc (suc v)) h = h
+
+-- a cell at level 1 is not lowered again
+lowered-again : (c : ℕ) (p : Permission) → lowered (cellOf (lowered c)) p ≡ lowered c p
+unfolding lowered
+lowered-again c TT = refl
+lowered-again c TF = rw (has-cellOf (lowered c) TT, has-cellOf (lowered c) TF)
+lowered-again c FT = refl
+lowered-again c FF = rw (has-cellOf (lowered c) FT, has-cellOf (lowered c) FF)
+
+restrict-empty : (w : ℕ) → restrict 0 w ≡ 0
+unfolding restrict lowered cellOf has code
+restrict-empty zero = refl
+restrict-empty (suc zero) = refl
+restrict-empty (suc (suc w)) = refl
+
+-- 'to v then w is to the smaller'
+pub restrict-restrict : (c v w : ℕ) → restrict (restrict c v) w ≡ restrict c (min v w)
+unfolding restrict
+restrict-restrict c zero w = let e : min zero w ≡ zero = omega arith in restrict-empty w ∙ ap (restrict c) (sym e)
+restrict-restrict c (suc zero) zero = refl
+restrict-restrict c (suc zero) (suc zero) = cellOf-ext (lowered (cellOf (lowered c))) (lowered c) (lowered-again c)
+restrict-restrict c (suc zero) (suc (suc w)) =
+    let e : min (suc zero) (suc (suc w)) ≡ suc zero = omega arith in ap (restrict c) (sym e)
+restrict-restrict c (suc (suc v)) zero = let e : min (suc (suc v)) zero ≡ zero = omega arith in ap (restrict c) (sym e)
+restrict-restrict c (suc (suc v)) (suc zero) =
+    let e : min (suc (suc v)) (suc zero) ≡ suc zero = omega arith in ap (restrict c) (sym e)
+restrict-restrict c (suc (suc v)) (suc (suc w)) =
+    let e : min (suc (suc v)) (suc (suc w)) ≡ suc (suc (min v w)) = omega arith in ap (restrict c) (sym e)
+
+not-both : (a : Bool) → a && not a ≡ a && false
+not-both true = refl
+not-both false = refl
+
+-- a record is gone from a restricted cell exactly where its need is above the level
+pub gone-need : (c v : ℕ) (p : Permission) → c ≤ 15 → has c p && not (has (restrict c v) p) ≡ has c p && ltb v (need p)
+unfolding restrict has cellOf lowered code need eachPermission allBelow
+gone-need c zero p h = by-cells (λ c p. has c p && not (has (restrict c 0) p)) (λ c p. has c p && ltb 0 (need p)) refl c p h
+gone-need c (suc zero) p h = by-cells (λ c p. has c p && not (has (restrict c 1) p)) (λ c p. has c p && ltb 1 (need p)) refl c p h
+gone-need c (suc (suc v)) p h = rw (le-ltb (suc (suc v)) (need p) (omega (arith, need-high p))) (not-both (has c p))
+
+no-record : (p : Permission) → has 0 p ≡ false
+unfolding has code
+no-record TT = refl
+no-record TF = refl
+no-record FT = refl
+no-record FF = refl
+
+-- a cell that holds no record above the level stays as it is
+pub restrict-fixed : (c v : ℕ) → c ≤ 15 → ((p : Permission) → has c p ≡ true → need p ≤ v) → restrict c v ≡ c
+unfolding restrict lowered need
+restrict-fixed c zero h enough =
+    cell-ext 0 c (omega arith) h
+    (λ p. no-record p ∙ sym (fails (has c p) (λ e. let n : need p ≤ 0 = enough p e in omega (arith, need-low p))))
+restrict-fixed c (suc zero) h enough = cellOf-ext (lowered c) (has c) kept ∙ cellOf-has c h
+  where
+    above : (p : Permission) → 2 ≤ need p → has c p ≡ false
+    above p l = fails (has c p) (λ e. let n : need p ≤ 1 = enough p e in omega arith)
+
+    kept : (p : Permission) → lowered c p ≡ has c p
+    kept TT = sym (above TT (lit≤ tt))
+    kept TF = rw (above TT (lit≤ tt))
+    kept FT = sym (above FT (lit≤ tt))
+    kept FF = rw (above FT (lit≤ tt))
+restrict-fixed c (suc (suc v)) h enough = refl
+
+-- a cell that stays as it is holds no record above the level
+pub fixed-need : (c v : ℕ) (p : Permission) → c ≤ 15 → restrict c v ≡ c → has c p ≡ true → need p ≤ v
+fixed-need c v p h e q = ltb-false v (need p) (sym (rw (e, q) at (gone-need c v p h)))
+
+-- what a cell carries: p, or something stronger
+pub record Carried (c : ℕ) (p : Permission) : Type 0 where
+  pub by : Permission
+  pub stands : has c by ≡ true
+  pub enough : serves by p ≡ true
+
+pub carried : (c : ℕ) (p : Permission) → carries c p ≡ true → Carried c p
+unfolding carries
+carried c p e =
+    let r = any-permission-found (λ q. has c q && serves q p) e in
+    record {
+      by = r .at;
+      stands = left-of (has c (r .at)) (serves (r .at) p) (r .passes);
+      enough = right-of (has c (r .at)) (serves (r .at) p) (r .passes);
+    }
+
+pub carries-from : (c : ℕ) (q p : Permission) → has c q ≡ true → serves q p ≡ true → carries c p ≡ true
+unfolding carries
+carries-from c q p e s = any-permission-from (λ q. has c q && serves q p) q (both e s)
+
+-- a record serves itself
+pub serves-self : (p : Permission) → serves p p ≡ true
+unfolding serves code
+serves-self TT = refl
+serves-self TF = refl
+serves-self FT = refl
+serves-self FF = refl
+
+-- a cell with more records carries more
+pub carries-more : (a b : ℕ) (p : Permission) → ((q : Permission) → has a q ≡ true → has b q ≡ true) → carries a p ≡ true → carries b p ≡ true
+carries-more a b p more e = let r = carried a p e in carries-from b (r .by) p (more (r .by) (r .stands)) (r .enough)
+
+-- the reading that passes p on is of p's need, entitles p, and is carried wherever a reading that entitles p is
+pub passing-need : (p : Permission) → need (passing p) ≡ need p
+unfolding need passing
+passing-need TT = refl
+passing-need TF = refl
+passing-need FT = refl
+passing-need FF = refl
+
+pub passing-level : (p : Permission) → levelOf (passing p) ≡ need p
+unfolding need passing levelOf
+passing-level TT = refl
+passing-level TF = refl
+passing-level FT = refl
+passing-level FF = refl
+
+pub passing-entitles : (p : Permission) → entitles (passing p) p ≡ true
+unfolding passing entitles
+passing-entitles TT = refl
+passing-entitles TF = refl
+passing-entitles FT = refl
+passing-entitles FF = refl

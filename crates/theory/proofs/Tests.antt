@@ -1,0 +1,46 @@
+-- Laws of tests: what a conjunction, a disjunction and a choice say of their parts. Assumes nothing.
+use mathlib.Core.Path.{_≡_, refl}
+use mathlib.Core.Logic.{_⊎_, inl, inr}
+use mathlib.Core.Bool.{Bool, true, false, _&&_, _||_, not, cond}
+
+pub both : {a b : Bool} → a ≡ true → b ≡ true → a && b ≡ true
+both p q = rw (p, q)
+
+pub left-of : (a b : Bool) → a && b ≡ true → a ≡ true
+left-of true b p = refl
+left-of false b p = p
+
+pub right-of : (a b : Bool) → a && b ≡ true → b ≡ true
+right-of true b p = p
+right-of false b p = cc
+
+pub or-left : {a : Bool} (b : Bool) → a ≡ true → a || b ≡ true
+or-left b p = rw p
+
+pub or-right : (a : Bool) {b : Bool} → b ≡ true → a || b ≡ true
+or-right true p = refl
+or-right false p = p
+
+pub either : (a b : Bool) → a || b ≡ true → (a ≡ true) ⊎ (b ≡ true)
+either true b p = inl refl
+either false b p = inr p
+
+-- a test passes or fails
+pub decided : (a : Bool) → (a ≡ true) ⊎ (a ≡ false)
+decided true = inl refl
+decided false = inr refl
+
+-- what is false is not true
+pub clash : {a : Bool} {P : Type 0} → a ≡ true → a ≡ false → P
+clash {a} {P} p q = absurd (let z : _≡_ {A = Bool} true false = cc in mathlib.Core.Bool.true≢false z)
+
+-- two tests that pass together are one test
+pub same-test : (a b : Bool) → (a ≡ true → b ≡ true) → (b ≡ true → a ≡ true) → a ≡ b
+same-test true b f g = cc (f refl)
+same-test false true f g = g refl
+same-test false false f g = refl
+
+-- a test that cannot pass fails
+pub fails : (a : Bool) → (a ≡ true → ⊥) → a ≡ false
+fails true f = absurd (f refl)
+fails false f = refl

@@ -3,3 +3,4 @@ pub mod Tests
 pub mod Below
 pub mod Cell
 pub mod Register
+pub mod Way

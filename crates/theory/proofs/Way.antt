@@ -1,0 +1,29 @@
+-- Ways from SOA over links of one kind: what levels and chains have in common. Assumes nothing.
+use Prim.Native.Nat.{ℕ, _<_}
+use mathlib.Core.Path.{_≡_}
+use mathlib.Core.Bool.{Bool, true, false}
+use mathlib.Core.List.{List, [], _∷_, _++_}
+use Rattle.rights.specs.declared.Header.{Header}
+use Rattle.rights.specs.Permission.{Permission}
+use Rattle.rights.specs.Cell.{carries}
+use Rattle.rights.specs.Register.{cell, soaOf}
+
+-- the link from x to y carries p
+unfoldable pub linkOf : Header → List ℕ → Permission → ℕ → ℕ → Bool
+linkOf h R p x y = carries (cell h R x y) p
+
+-- a list of allowed offices from SOA to y, each link of which passes the test
+pub data Way (h : Header) (allowed : ℕ → Bool) (passes : ℕ → ℕ → Bool) : List ℕ → ℕ → Type 0 where
+  start : allowed (soaOf h) ≡ true → Way h allowed passes (soaOf h ∷ []) (soaOf h)
+  onward :
+    {offices : List ℕ} {x : ℕ} (y : ℕ) →
+    Way h allowed passes offices x →
+    y < h .n →
+    allowed y ≡ true →
+    passes x y ≡ true →
+    Way h allowed passes (offices ++ (y ∷ [])) y
+
+-- such a list exists
+pub record Reach (h : Header) (allowed : ℕ → Bool) (passes : ℕ → ℕ → Bool) (y : ℕ) : Type 0 where
+  pub offices : List ℕ
+  pub way : Way h allowed passes offices y

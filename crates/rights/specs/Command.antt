@@ -9,7 +9,7 @@ use Rattle.rights.specs.Permission.{Permission, isCode, decoded, entitle
 use Rattle.rights.specs.Cell.{has}
 use Rattle.rights.specs.Register.{cell, soaOf}
 use Rattle.rights.specs.Level.{holds}
-use Rattle.rights.specs.Sound.{headed, whole, sound, barred}
+use Rattle.rights.specs.Sound.{barred, firstOf, unless, registerRefusal}
 use Rattle.rights.specs.Deletion.{granted, wld, wgd, sld, sgd}
 use Rattle.rights.specs.Tally.{missing}
 
@@ -34,24 +34,25 @@ mayGrant h R i p = anyPermission (λ q. holds h R q i && entitles q p)
 -- refusals 8 and 9, for grants
 unfoldable pub grantRefusal : Header → List ℕ → Command → ℕ
 grantRefusal h R c =
-    cond (not (mayGrant h R (byOf c) (decoded (c .perm)))) 8
-    (cond (has (cell h R (byOf c) (toOf c)) (decoded (c .perm))) 9 0)
+    firstOf (unless (mayGrant h R (byOf c) (decoded (c .perm))) 8)
+    (unless (not (has (cell h R (byOf c) (toOf c)) (decoded (c .perm)))) 9)
 
 -- refusal 10, for deletions
 unfoldable pub deletionRefusal : Header → List ℕ → Command → ℕ
-deletionRefusal h R c = cond (eqb (cell h R (byOf c) (toOf c)) 0) 10 0
+deletionRefusal h R c = unless (not (eqb (cell h R (byOf c) (toOf c)) 0)) 10
+
+-- refusals 4 to 7, which read the header and the command alone
+unfoldable pub formRefusal : Header → Command → ℕ
+formRefusal h c =
+    firstOf (unless (wellFormed c) 4)
+    (firstOf (unless (eqb (c .layer .0) (h .layer .0)) 5)
+    (firstOf (unless (ltb (byOf c) (h .n) && ltb (toOf c) (h .n)) 6) (unless (not (barred h (byOf c) (toOf c))) 7)))
 
 -- 'Commands check 1 to 10 in order (8, 9 only for grants, 10 only for deletions)'; 0 where none applies
 unfoldable pub refusal : Header → List ℕ → Command → ℕ
 refusal h R c =
-    cond (not (headed h)) 1
-    (cond (not (whole h R)) 2
-    (cond (not (sound h R)) 3
-    (cond (not (wellFormed c)) 4
-    (cond (not (eqb (c .layer .0) (h .layer .0))) 5
-    (cond (not (ltb (byOf c) (h .n) && ltb (toOf c) (h .n))) 6
-    (cond (barred h (byOf c) (toOf c)) 7
-    (cond (isGrant c) (grantRefusal h R c) (deletionRefusal h R c))))))))
+    firstOf (registerRefusal h R)
+    (firstOf (formRefusal h c) (cond (isGrant c) (grantRefusal h R c) (deletionRefusal h R c)))
 
 -- 'Acts: 0 grant, 1 WLD, 2 WGD, 3 SLD, 4 SGD'
 unfoldable pub carriedOut : Header → List ℕ → Command → List ℕ

@@ -3,14 +3,14 @@ use Prim.Native.Nat.{ℕ, zero, suc}
 use mathlib.Core.Bool.{Bool, true, false, _&&_, not, cond}
 use mathlib.Core.List.{List, [], _∷_, _++_}
 use lib.ListN.{length, getD, drop}
-use lib.Dec.{eqb, ltb}
+use lib.Dec.{eqb, ltb, leb}
 use Rattle.rights.specs.declared.Header.{Header}
 use Rattle.rights.specs.Below.{anyBelow, firstBelow, table}
 use Rattle.rights.specs.Permission.{Permission, isCode, decoded, passing}
 use Rattle.rights.specs.Cell.{carries}
 use Rattle.rights.specs.Register.{cell, soaOf}
 use Rattle.rights.specs.Level.{isIn, holds}
-use Rattle.rights.specs.Sound.{headed, whole, sound}
+use Rattle.rights.specs.Sound.{firstOf, unless, registerRefusal}
 
 -- the set of one office
 unfoldable pub single : Header → ℕ → List Bool
@@ -50,13 +50,10 @@ pickedChain h R p j = smallest h R p (fewestLinks h R p j) (single h j)
 -- 'A holding question checks 1, 2, 3, 4, 6, 11, 12; any perm but 1, 2, 4, 8 is 4'; room is the length of the chain buffer
 unfoldable pub questionRefusal : Header → List ℕ → ℕ → ℕ → ℕ → ℕ
 questionRefusal h R j perm room =
-    cond (not (headed h)) 1
-    (cond (not (whole h R)) 2
-    (cond (not (sound h R)) 3
-    (cond (not (isCode perm)) 4
-    (cond (not (ltb j (h .n))) 6
-    (cond (ltb room (h .n)) 11
-    (cond (not (holds h R (decoded perm) j)) 12 0))))))
+    firstOf (registerRefusal h R)
+    (firstOf (unless (isCode perm) 4)
+    (firstOf (unless (ltb j (h .n)) 6)
+    (firstOf (unless (leb (h .n) room) 11) (unless (holds h R (decoded perm) j) 12))))
 
 -- what a question answers and leaves
 pub record Answer : Type 0 where

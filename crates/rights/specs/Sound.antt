@@ -1,7 +1,7 @@
 -- Sound registers: in 01's words, and as a test that computes. That the two are one is a law.
 use Prim.Native.Nat.{ℕ, _*_, _<_, _≤_}
 use mathlib.Core.Path.{_≡_}
-use mathlib.Core.Bool.{Bool, true, false, _&&_, _||_, not}
+use mathlib.Core.Bool.{Bool, true, false, _&&_, _||_, not, cond}
 use mathlib.Core.List.{List}
 use lib.ListN.{length}
 use lib.Dec.{eqb, leb, ltb}
@@ -49,3 +49,15 @@ soundBy h R ls = allBelow (h .n) (λ i. allBelow (h .n) (λ j. soundCell h R ls 
 -- the test for refusal 3
 unfoldable pub sound : Header → List ℕ → Bool
 sound h R = soundBy h R (levels h R)
+
+-- 'checks .. in order': the first refusal where it applies, and otherwise the second; 0 is none
+unfoldable pub firstOf : ℕ → ℕ → ℕ
+firstOf a b = cond (eqb a 0) b a
+
+-- the refusal where the test fails
+unfoldable pub unless : Bool → ℕ → ℕ
+unless test number = cond test 0 number
+
+-- refusals 1, 2 and 3 of the table: n and SOA, the length of the buffer, soundness
+unfoldable pub registerRefusal : Header → List ℕ → ℕ
+registerRefusal h R = firstOf (unless (headed h) 1) (firstOf (unless (whole h R) 2) (unless (sound h R) 3))

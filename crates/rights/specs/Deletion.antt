@@ -9,11 +9,11 @@ use Rattle.rights.specs.Permission.{Permission, code, anyPermission}
 use Rattle.rights.specs.Cell.{union, without}
 use Rattle.rights.specs.Register.{cell, register}
 use Rattle.rights.specs.Level.{isIn, levels, independentLevels, levelIn, holdsBy}
-use Rattle.rights.specs.Restriction.{restricted, rowTo, columnsTo, sweep, emptied}
+use Rattle.rights.specs.Restriction.{restricted, isCell, rowTo, columnsTo, sweep, emptied}
 
 -- 'Grant: adds the record.'
 unfoldable pub granted : Header → List ℕ → ℕ → ℕ → Permission → List ℕ
-granted h R i j p = register h (λ x y. cond (eqb x i && eqb y j) (union (cell h R x y) (code p)) (cell h R x y))
+granted h R i j p = register h (λ x y. cond (isCell i j x y) (union (cell h R x y) (code p)) (cell h R x y))
 
 -- 'WGD: empty the cell i, j; sweep.'
 unfoldable pub wgd : Header → List ℕ → ℕ → ℕ → List ℕ

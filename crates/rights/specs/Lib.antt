@@ -11,3 +11,4 @@ pub mod Deletion
 pub mod Tally
 pub mod Command
 pub mod Question
+pub mod Run

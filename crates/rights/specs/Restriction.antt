@@ -12,9 +12,13 @@ use Rattle.rights.specs.Level.{levels, levelIn}
 unfoldable pub restricted : Header → List ℕ → (ℕ → ℕ → ℕ) → List ℕ
 restricted h R to = register h (λ i j. restrict (cell h R i j) (to i j))
 
--- 'empty the cell i, j': that cell to 0, and every other kept
-unfoldable pub emptyCell : ℕ → ℕ → ℕ → ℕ → ℕ
-emptyCell i j x y = cond (eqb x i && eqb y j) 0 2
+-- the cells that pass the test to 0, and every other kept
+unfoldable pub emptyWhere : (ℕ → ℕ → Bool) → ℕ → ℕ → ℕ
+emptyWhere test x y = cond (test x y) 0 2
+
+-- the cell i, j and no other
+unfoldable pub isCell : ℕ → ℕ → ℕ → ℕ → Bool
+isCell i j x y = eqb x i && eqb y j
 
 -- row j to v, and every other kept
 unfoldable pub rowTo : ℕ → ℕ → ℕ → ℕ → ℕ
@@ -32,6 +36,6 @@ columnsTo test ls x y = cond (test y) (levelIn ls x) 2
 unfoldable pub sweep : Header → List ℕ → List ℕ
 sweep h R = restricted h R (rowsTo (levels h R))
 
--- the register with the cell i, j emptied
+-- 'empty the cell i, j'
 unfoldable pub emptied : Header → List ℕ → ℕ → ℕ → List ℕ
-emptied h R i j = restricted h R (emptyCell i j)
+emptied h R i j = restricted h R (emptyWhere (isCell i j))

@@ -2,7 +2,7 @@
 use Prim.Native.Nat.{ℕ, zero, suc, _+_, _≤_, _<_}
 use native.Mathlib.Nat.{not-suc-le-zero}
 use native.Mathlib.Omega.{arith}
-use native.Mathlib.Decide.{ℕ-discrete}
+use native.Mathlib.Decide.{ℕ-discrete, decLt}
 use mathlib.Core.Path.{_≡_, refl, ap, ap₂, sym, _∙_}
 use mathlib.Core.Logic.{_⊎_, inl, inr, ⊎-elim}
 use mathlib.Core.Bool.{Bool, true, false, _&&_, _||_, cond}
@@ -18,6 +18,14 @@ last-or-below k n h = go (ℕ-discrete k n)
   where
     go : Dec (k ≡ n) → (k ≡ n) ⊎ (k < n)
     go (yes e) = inl e
+    go (no ne) = inr (omega arith)
+
+-- below n, or not
+pub below-or-not : (k n : ℕ) → (k < n) ⊎ (n ≤ k)
+below-or-not k n = go (decLt k n)
+  where
+    go : Dec (k < n) → (k < n) ⊎ (n ≤ k)
+    go (yes l) = inl l
     go (no ne) = inr (omega arith)
 
 -- a test that passes at k passes somewhere below n

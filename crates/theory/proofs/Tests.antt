@@ -14,6 +14,10 @@ pub right-of : (a b : Bool) → a && b ≡ true → b ≡ true
 right-of true b p = p
 right-of false b p = cc
 
+-- the three parts of a conjunction
+pub parts-of : (a b c : Bool) → a && b && c ≡ true → (a ≡ true) × (b ≡ true) × (c ≡ true)
+parts-of a b c p = (left-of a b (left-of (a && b) c p), right-of a b (left-of (a && b) c p), right-of (a && b) c p)
+
 pub or-left : {a : Bool} (b : Bool) → a ≡ true → a || b ≡ true
 or-left b p = rw p
 
@@ -44,3 +48,12 @@ same-test false false f g = refl
 pub fails : (a : Bool) → (a ≡ true → ⊥) → a ≡ false
 fails true f = absurd (f refl)
 fails false f = refl
+
+-- an implication as a test
+pub implied : (a b : Bool) → not a || b ≡ true → a ≡ true → b ≡ true
+implied true b p q = p
+implied false b p q = clash q refl
+
+pub implies : (a b : Bool) → (a ≡ true → b ≡ true) → not a || b ≡ true
+implies true b f = f refl
+implies false b f = refl

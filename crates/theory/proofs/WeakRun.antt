@@ -1,0 +1,152 @@
+-- Demand 3: where a run of WGDs ends depends only on the set of pairs that it names. Assumes nothing.
+use Prim.Native.Nat.{ℕ, zero, suc, _+_, _*_, _≤_, _<_, min}
+use native.Mathlib.Omega.{arith}
+use mathlib.Core.Path.{_≡_, refl, ap, ap₂, sym, _∙_}
+use mathlib.Core.Logic.{_⊎_, inl, inr, ⊎-elim, _↔_}
+use mathlib.Core.Bool.{Bool, true, false, _&&_, _||_, not, cond}
+use mathlib.Core.List.{List, [], _∷_}
+use lib.ListN.{length}
+use lib.Dec.{eqb, leb, ltb}
+use borrow.Author.Tests.{eqb-true, eqb-false, eq-eqb, lt-ltb}
+use Rattle.rights.specs.declared.Header.{Header}
+use Rattle.rights.specs.declared.Command.{Command}
+use Rattle.rights.specs.Permission.{Permission}
+use Rattle.rights.specs.Cell.{restrict}
+use Rattle.rights.specs.Register.{cell, soaOf}
+use Rattle.rights.specs.Level.{levels, holds}
+use Rattle.rights.specs.Sound.{headed, whole, sound, barred, firstOf, unless, registerRefusal}
+use Rattle.rights.specs.Restriction.{restricted, emptyWhere, isCell, rowsTo, sweep, emptied}
+use Rattle.rights.specs.Deletion.{wgd}
+use Rattle.rights.specs.Command.{byOf, toOf, isGrant, wellFormed, formRefusal, deletionRefusal, refusal, carriedOut, outcome, refused, done}
+use Rattle.rights.specs.Run.{ran, WeakGlobal, WeakGlobals, none, more, namesPair}
+use Rattle.theory.proofs.Tests.{left-of, right-of, clash}
+use Rattle.theory.proofs.Register.{same-cells}
+use Rattle.theory.proofs.Restriction.{Small, restricted-cell, restricted-small, restricted-ext, restricted-twice, length-restricted}
+use Rattle.theory.proofs.Sweep.{absorb, holds-sweep}
+use Rattle.theory.proofs.Ready.{Ready, headed-inside, whole-length, ready-register}
+use Rattle.theory.proofs.Standing.{Clean, sound-clean, sweep-sound, swept-sound, restricted-clean}
+
+restrict-where : (c : ℕ) (t : Bool) → (t ≡ true → c ≡ 0) → restrict c (cond t 0 2) ≡ c
+unfolding restrict
+restrict-where c true e = sym (e refl)
+restrict-where c false e = refl
+
+-- where the cells that pass the test are empty, to empty them changes nothing
+pub restricted-where :
+    (h : Header) (R : List ℕ) (test : ℕ → ℕ → Bool) →
+    length R ≡ h .n * h .n →
+    ((x y : ℕ) → x < h .n → y < h .n → test x y ≡ true → cell h R x y ≡ 0) →
+    restricted h R (emptyWhere test) ≡ R
+unfolding emptyWhere
+restricted-where h R test l e =
+    same-cells h (restricted h R (emptyWhere test)) R (length-restricted h R (emptyWhere test)) l
+    (λ x y hx hy. restricted-cell h R (emptyWhere test) x y hx hy ∙ restrict-where (cell h R x y) (test x y) (e x y hx hy))
+
+is-cell : (h : Header) (R : List ℕ) (i j x y : ℕ) → isCell i j x y ≡ true → cell h R i j ≡ 0 → cell h R x y ≡ 0
+unfolding isCell
+is-cell h R i j x y t e =
+    let ex = eqb-true x i (left-of (eqb x i) (eqb y j) t) in
+    let ey = eqb-true y j (right-of (eqb x i) (eqb y j) t) in
+    rw (ex, ey) e
+
+-- to empty a cell that is empty, and sweep, changes nothing
+pub wgd-empty : (h : Header) (R : List ℕ) → Ready h R → (i j : ℕ) → cell h R i j ≡ 0 → wgd h R i j ≡ R
+unfolding wgd emptied
+wgd-empty h R ready i j e =
+    ap (sweep h) (restricted-where h R (isCell i j) (whole-length h R (ready .whole)) (λ x y hx hy t. is-cell h R i j x y t e))
+    ∙ sweep-sound h R (whole-length h R (ready .whole)) (ready .sound)
+
+-- a WGD leaves a register as 01 has it
+pub wgd-ready : (h : Header) (R : List ℕ) → Ready h R → (i j : ℕ) → Ready h (wgd h R i j)
+unfolding wgd emptied whole sweep
+wgd-ready h R ready i j =
+    let inside = headed-inside h (ready .headed) in
+    let M = restricted h R (emptyWhere (isCell i j)) in
+    record {
+      headed = ready .headed;
+      whole = eq-eqb (length (sweep h M)) (h .n * h .n) (length-restricted h M (rowsTo (levels h M)));
+      sound = swept-sound h M inside (restricted-clean h R (emptyWhere (isCell i j)) (sound-clean h R (ready .sound)));
+    }
+
+-- a WGD as demand 3 has it is refused with 7 or 10, or not at all
+weak-refusal :
+    (h : Header) (R : List ℕ) → Ready h R → (c : Command) → WeakGlobal h c →
+    refusal h R c ≡ firstOf (unless (not (barred h (byOf c) (toOf c))) 7) (unless (not (eqb (cell h R (byOf c) (toOf c)) 0)) 10)
+unfolding refusal firstOf unless formRefusal deletionRefusal wellFormed isGrant
+weak-refusal h R ready c weak =
+    rw (
+      ready-register h R ready,
+      weak .act,
+      weak .perm,
+      eq-eqb (c .layer .0) (h .layer .0) (weak .layer),
+      lt-ltb (byOf c) (h .n) (weak .by),
+      lt-ltb (toOf c) (h .n) (weak .to),
+    )
+
+-- a refused command leaves the register
+pub outcome-refused : (h : Header) (R : List ℕ) (c : Command) → eqb (refusal h R c) 0 ≡ false → outcome h R c .cells ≡ R
+unfolding outcome refused
+outcome-refused h R c e = rw e
+
+pub outcome-done : (h : Header) (R : List ℕ) (c : Command) → eqb (refusal h R c) 0 ≡ true → outcome h R c .cells ≡ carriedOut h R c
+unfolding outcome done
+outcome-done h R c e = rw e
+
+-- whatever a WGD as demand 3 has it answers, it leaves the register as emptying its cell and sweeping would
+pub weak-step : (h : Header) (R : List ℕ) → Ready h R → (c : Command) → WeakGlobal h c → outcome h R c .cells ≡ wgd h R (byOf c) (toOf c)
+unfolding firstOf unless carriedOut isGrant
+weak-step h R ready c weak = go (barred h (byOf c) (toOf c)) refl (eqb (cell h R (byOf c) (toOf c)) 0) refl
+  where
+    unmoved : cell h R (byOf c) (toOf c) ≡ 0 → eqb (refusal h R c) 0 ≡ false → outcome h R c .cells ≡ wgd h R (byOf c) (toOf c)
+    unmoved e r = outcome-refused h R c r ∙ sym (wgd-empty h R ready (byOf c) (toOf c) e)
+
+    go :
+        (b : Bool) → barred h (byOf c) (toOf c) ≡ b → (e : Bool) → eqb (cell h R (byOf c) (toOf c)) 0 ≡ e →
+        outcome h R c .cells ≡ wgd h R (byOf c) (toOf c)
+    go true eb e ee =
+        unmoved (sound-clean h R (ready .sound) .unbarred (byOf c) (toOf c) (weak .by) (weak .to) eb)
+        (rw (weak-refusal h R ready c weak, eb) refl)
+    go false eb true ee =
+        unmoved (eqb-true (cell h R (byOf c) (toOf c)) 0 ee) (rw (weak-refusal h R ready c weak, eb, ee) refl)
+    go false eb false ee = outcome-done h R c (rw (weak-refusal h R ready c weak, eb, ee) refl) ∙ rw (weak .act)
+
+-- the cells that either test empties
+empty-either : (s t : Bool) → min (cond s 0 2) (cond t 0 2) ≡ cond (s || t) 0 2
+empty-either true t = omega arith
+empty-either false true = omega arith
+empty-either false false = omega arith
+
+-- Demand 3: the register at the end is the one at the start with every named cell emptied, swept once
+pub weak-run :
+    (h : Header) (R : List ℕ) → Ready h R → (commands : List Command) → WeakGlobals h commands →
+    ran h R commands ≡ sweep h (restricted h R (emptyWhere (namesPair commands)))
+unfolding ran namesPair wgd emptied emptyWhere
+weak-run h R ready commands none =
+    sym
+    (ap (sweep h) (restricted-where h R (namesPair []) (whole-length h R (ready .whole)) (λ x y hx hy t. clash t refl))
+    ∙ sweep-sound h R (whole-length h R (ready .whole)) (ready .sound))
+weak-run h R ready all (more c {commands} weak weaks) =
+    let inside = headed-inside h (ready .headed) in
+    let small = sound-clean h R (ready .sound) .small in
+    let first = isCell (byOf c) (toOf c) in
+    rw (weak-step h R ready c weak)
+    (weak-run h (wgd h R (byOf c) (toOf c)) (wgd-ready h R ready (byOf c) (toOf c)) commands weaks
+    ∙ absorb h inside (restricted h R (emptyWhere first)) (restricted-small h R (emptyWhere first) small) (emptyWhere (namesPair commands))
+    ∙ ap (sweep h)
+    (restricted-twice h R (emptyWhere first) (emptyWhere (namesPair commands))
+    ∙ restricted-ext h R (λ x y. min (emptyWhere first x y) (emptyWhere (namesPair commands) x y)) (emptyWhere (namesPair (c ∷ commands)))
+    (λ x y hx hy. empty-either (first x y) (namesPair commands x y))))
+
+-- so two runs that name the same pairs, in any order, with repeats or without, end in the same register
+pub weak-runs-agree :
+    (h : Header) (R : List ℕ) → Ready h R →
+    (some others : List Command) → WeakGlobals h some → WeakGlobals h others →
+    ((x y : ℕ) → x < h .n → y < h .n → namesPair some x y ≡ namesPair others x y) →
+    ran h R some ≡ ran h R others
+unfolding emptyWhere
+weak-runs-agree h R ready some others ws wo e =
+    weak-run h R ready some ws
+    ∙ ap (sweep h)
+    (restricted-ext h R (emptyWhere (namesPair some)) (emptyWhere (namesPair others))
+    (λ x y hx hy. ap (λ (t : Bool). cond t 0 2) (e x y hx hy)))
+    ∙ sym (weak-run h R ready others wo)

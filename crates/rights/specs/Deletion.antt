@@ -20,10 +20,12 @@ unfoldable pub wgd : Header → List ℕ → ℕ → ℕ → List ℕ
 wgd h R i j = sweep h (emptied h R i j)
 
 -- 'Each record (j, k) that stood before and is gone now is added as (i, k), unless k is i.' N is the register now.
+unfoldable pub handedCell : Header → List ℕ → List ℕ → ℕ → ℕ → ℕ → ℕ → ℕ
+handedCell h R N i j x k =
+    cond (eqb x i && not (eqb k i)) (union (cell h N i k) (without (cell h R j k) (cell h N j k))) (cell h N x k)
+
 unfoldable pub handedOver : Header → List ℕ → List ℕ → ℕ → ℕ → List ℕ
-handedOver h R N i j =
-    register h
-    (λ x y. cond (eqb x i && not (eqb y i)) (union (cell h N i y) (without (cell h R j y) (cell h N j y))) (cell h N x y))
+handedOver h R N i j = register h (handedCell h R N i j)
 
 -- 'Let v be j's level then. Restrict row j to v', and what row j lost is handed over. M is the register after the column step.
 unfoldable pub rowSettled : Header → List ℕ → List ℕ → ℕ → ℕ → List ℕ

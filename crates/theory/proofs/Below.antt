@@ -28,6 +28,14 @@ below-or-not k n = go (decLt k n)
     go (yes l) = inl l
     go (no ne) = inr (omega arith)
 
+-- the same number, or not
+pub same-or-not : (k m : ℕ) → (k ≡ m) ⊎ (k ≡ m → ⊥)
+same-or-not k m = go (ℕ-discrete k m)
+  where
+    go : Dec (k ≡ m) → (k ≡ m) ⊎ (k ≡ m → ⊥)
+    go (yes e) = inl e
+    go (no ne) = inr ne
+
 -- a test that passes at k passes somewhere below n
 pub any-from : (n : ℕ) (f : ℕ → Bool) (k : ℕ) → k < n → f k ≡ true → anyBelow n f ≡ true
 unfolding anyBelow

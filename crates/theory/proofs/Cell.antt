@@ -5,7 +5,7 @@ use mathlib.Core.Path.{_≡_, refl, ap, ap₂, sym, _∙_}
 use mathlib.Core.Logic.{_⊎_, inl, inr, ⊎-elim}
 use mathlib.Core.Bool.{Bool, true, false, _&&_, _||_, not, cond, Bool·beq}
 use lib.Dec.{eqb, leb, ltb, lit≤}
-use borrow.Author.Tests.{eqb-true, ltb-false, le-leb, le-ltb}
+use borrow.Author.Tests.{eqb-true, leb-true, ltb-true, ltb-false, lt-ltb, le-leb, le-ltb}
 use Rattle.rights.specs.Below.{allBelow}
 use Rattle.rights.specs.Permission.{Permission, TT, TF, FT, FF, code, anyPermission, isCode, decoded, entitles, stronger, serves, need, passing}
 use Rattle.rights.specs.Cell.{has, cellOf, size, carries, union, without, lowered, restrict}
@@ -328,3 +328,31 @@ passing-entitles TT = refl
 passing-entitles TF = refl
 passing-entitles FT = refl
 passing-entitles FF = refl
+
+-- a record that serves where what passes p on is read needs no less than p
+pub serves-need : (r p : Permission) → serves r (passing p) ≡ true → need p ≤ need r
+unfolding eachPermission serves stronger code passing need
+serves-need r p e =
+    leb-true (need p) (need r)
+    (right-of (serves r (passing p)) (leb (need p) (need r))
+    (sym (by-pairs (λ r p. serves r (passing p)) (λ r p. serves r (passing p) && leb (need p) (need r)) refl r p) ∙ e))
+
+-- no record of a restricted cell is above the level
+pub restricted-need : (c v : ℕ) (p : Permission) → c ≤ 15 → has (restrict c v) p ≡ true → need p ≤ v
+restricted-need c v p h e =
+    let again : min v v ≡ v = omega arith in
+    fixed-need (restrict c v) v p (restrict-small c v h) (restrict-restrict c v v ∙ ap (restrict c) again) e
+
+-- a cell with no record above a level has none above it after restricting
+pub fixed-restrict : (c v w : ℕ) → restrict c w ≡ c → restrict (restrict c v) w ≡ restrict c v
+fixed-restrict c v w e =
+    let swap : min v w ≡ min w v = omega arith in
+    restrict-restrict c v w ∙ ap (restrict c) swap ∙ sym (restrict-restrict c w v) ∙ ap (λ (d : ℕ). restrict d v) e
+
+-- a record above the level is gone from the restricted cell
+pub gone-above : (c v : ℕ) (p : Permission) → c ≤ 15 → has c p ≡ true → v < need p → has c p && not (has (restrict c v) p) ≡ true
+gone-above c v p h e l = gone-need c v p h ∙ both e (lt-ltb v (need p) l)
+
+-- and nothing else is
+pub above-gone : (c v : ℕ) (p : Permission) → c ≤ 15 → has c p && not (has (restrict c v) p) ≡ true → v < need p
+above-gone c v p h e = ltb-true v (need p) (right-of (has c p) (ltb v (need p)) (sym (gone-need c v p h) ∙ e))

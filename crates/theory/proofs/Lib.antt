@@ -10,4 +10,6 @@ pub mod Restriction
 pub mod Sweep
 pub mod Standing
 pub mod Ready
+pub mod Cut
+pub mod Local
 pub mod WeakRun

@@ -277,6 +277,36 @@ serves-self FF = refl
 pub carries-more : (a b : ℕ) (p : Permission) → ((q : Permission) → has a q ≡ true → has b q ≡ true) → carries a p ≡ true → carries b p ≡ true
 carries-more a b p more e = let r = carried a p e in carries-from b (r .by) p (more (r .by) (r .stands)) (r .enough)
 
+-- what serves where q is read serves wherever q serves
+serves-trans : (r q p : Permission) → serves r q && serves q p ≡ serves r q && serves q p && serves r p
+unfolding eachPermission serves stronger code
+serves-trans TT = by-pairs (λ q p. serves TT q && serves q p) (λ q p. serves TT q && serves q p && serves TT p) refl
+serves-trans TF = by-pairs (λ q p. serves TF q && serves q p) (λ q p. serves TF q && serves q p && serves TF p) refl
+serves-trans FT = by-pairs (λ q p. serves FT q && serves q p) (λ q p. serves FT q && serves q p && serves FT p) refl
+serves-trans FF = by-pairs (λ q p. serves FF q && serves q p) (λ q p. serves FF q && serves q p && serves FF p) refl
+
+-- a link that carries q carries what q serves for
+pub carries-serves : (c : ℕ) (q p : Permission) → carries c q ≡ true → serves q p ≡ true → carries c p ≡ true
+carries-serves c q p e s =
+    let r = carried c q e in
+    carries-from c (r .by) p (r .stands)
+    (right-of (serves (r .by) q && serves q p) (serves (r .by) p) (sym (serves-trans (r .by) q p) ∙ both (r .enough) s))
+
+pub TT-serves : (p : Permission) → serves TT p ≡ true
+unfolding serves stronger code
+TT-serves TT = refl
+TT-serves TF = refl
+TT-serves FT = refl
+TT-serves FF = refl
+
+-- p is passed on by TT and needs level 2, or by TF and needs level 1
+pub passing-cases : (p : Permission) → ((passing p ≡ TT) × (need p ≡ 2)) ⊎ ((passing p ≡ TF) × (need p ≡ 1))
+unfolding need passing
+passing-cases TT = inl (refl, refl)
+passing-cases TF = inr (refl, refl)
+passing-cases FT = inl (refl, refl)
+passing-cases FF = inr (refl, refl)
+
 -- the reading that passes p on is of p's need, entitles p, and is carried wherever a reading that entitles p is
 pub passing-need : (p : Permission) → need (passing p) ≡ need p
 unfolding need passing

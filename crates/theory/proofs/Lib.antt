@@ -1,6 +1,8 @@
 -- What is proved of the definitions of document 01, from the ground up.
 pub mod Tests
 pub mod Below
+pub mod Growth
 pub mod Cell
 pub mod Register
 pub mod Way
+pub mod Level

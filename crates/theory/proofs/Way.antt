@@ -16,14 +16,23 @@ linkOf h R p x y = carries (cell h R x y) p
 pub data Way (h : Header) (allowed : ℕ → Bool) (passes : ℕ → ℕ → Bool) : List ℕ → ℕ → Type 0 where
   start : allowed (soaOf h) ≡ true → Way h allowed passes (soaOf h ∷ []) (soaOf h)
   onward :
-    {offices : List ℕ} {x : ℕ} (y : ℕ) →
-    Way h allowed passes offices x →
-    y < h .n →
-    allowed y ≡ true →
-    passes x y ≡ true →
-    Way h allowed passes (offices ++ (y ∷ [])) y
+      {offices : List ℕ} {x : ℕ} (y : ℕ) →
+      Way h allowed passes offices x →
+      y < h .n →
+      allowed y ≡ true →
+      passes x y ≡ true →
+      Way h allowed passes (offices ++ (y ∷ [])) y
 
 -- such a list exists
 pub record Reach (h : Header) (allowed : ℕ → Bool) (passes : ℕ → ℕ → Bool) (y : ℕ) : Type 0 where
   pub offices : List ℕ
   pub way : Way h allowed passes offices y
+
+-- where more is allowed and more passes, every way is still one
+pub way-more :
+    {h : Header} {allowed : ℕ → Bool} {passes : ℕ → ℕ → Bool} (allowed′ : ℕ → Bool) (passes′ : ℕ → ℕ → Bool) →
+    ((x : ℕ) → allowed x ≡ true → allowed′ x ≡ true) →
+    ((x y : ℕ) → passes x y ≡ true → passes′ x y ≡ true) →
+    {offices : List ℕ} {y : ℕ} → Way h allowed passes offices y → Way h allowed′ passes′ offices y
+way-more {h} allowed′ passes′ f g (start a) = start (f (soaOf h) a)
+way-more allowed′ passes′ f g (onward {x} y w l a q) = onward y (way-more allowed′ passes′ f g w) l (f y a) (g x y q)

@@ -16,6 +16,10 @@ restricted h R to = register h (λ i j. restrict (cell h R i j) (to i j))
 unfoldable pub emptyCell : ℕ → ℕ → ℕ → ℕ → ℕ
 emptyCell i j x y = cond (eqb x i && eqb y j) 0 2
 
+-- every cell of which the test holds to 0, and every other kept
+unfoldable pub emptyWhere : (ℕ → ℕ → Bool) → ℕ → ℕ → ℕ
+emptyWhere named x y = cond (named x y) 0 2
+
 -- row j to v, and every other kept
 unfoldable pub rowTo : ℕ → ℕ → ℕ → ℕ → ℕ
 rowTo j v x y = cond (eqb x j) v 2

@@ -6,3 +6,4 @@ pub mod Cell
 pub mod Register
 pub mod Way
 pub mod Level
+pub mod Chain

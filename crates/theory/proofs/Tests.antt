@@ -25,6 +25,26 @@ pub either : (a b : Bool) → a || b ≡ true → (a ≡ true) ⊎ (b ≡ true)
 either true b p = inl refl
 either false b p = inr p
 
+-- neither passes
+pub neither : {a b : Bool} → a ≡ false → b ≡ false → a || b ≡ false
+neither p q = rw (p, q)
+
+pub not-left : (a b : Bool) → a || b ≡ false → a ≡ false
+not-left true b p = p
+not-left false b p = refl
+
+pub not-right : (a b : Bool) → a || b ≡ false → b ≡ false
+not-right true b p = cc
+not-right false b p = p
+
+pub or-assoc : (a b c : Bool) → a || b || c ≡ a || (b || c)
+or-assoc true b c = refl
+or-assoc false b c = refl
+
+pub or-false : (a : Bool) → a || false ≡ a
+or-false true = refl
+or-false false = refl
+
 -- a test passes or fails
 pub decided : (a : Bool) → (a ≡ true) ⊎ (a ≡ false)
 decided true = inl refl

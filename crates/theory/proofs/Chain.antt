@@ -6,7 +6,7 @@ use mathlib.Core.Logic.{_↔_, ⊎-elim}
 use mathlib.Core.Bool.{Bool, true, false, _&&_, _||_, not, cond}
 use mathlib.Core.List.{List, [], _∷_, _++_}
 use lib.Dec.{eqb, leb}
-use borrow.Author.Tests.{eqb-true, eqb-false, eq-eqb, ne-eqb, not-true, leb-true, le-leb, lt-leb}
+use borrow.Author.Tests.{eqb-true, eqb-false, eq-eqb, ne-eqb, not-true, leb-true, leb-false, le-leb, lt-leb}
 use Rattle.rights.specs.declared.Header.{Header}
 use Rattle.rights.specs.Below.{anyBelow}
 use Rattle.rights.specs.Permission.{Permission, TT, TF, need, passing, entitles}
@@ -15,11 +15,11 @@ use Rattle.rights.specs.Register.{cell, soaOf}
 use Rattle.rights.specs.Chain.{RootedChain, alone, link, Holds, HoldsWithout, HoldsUnused, names, uses}
 use Rattle.rights.specs.Level.{levels, independentLevels, levelsAmong, levelIn, everyOffice, otherThan, holds, holdsBy}
 use Rattle.rights.specs.Restriction.{restricted, emptyWhere}
-use Rattle.theory.proofs.Tests.{both, left-of, right-of, or-left, or-right, either, neither, not-left, not-right, or-assoc, or-false}
+use Rattle.theory.proofs.Tests.{both, left-of, right-of, or-left, or-right, either, decided, clash, neither, not-left, not-right, or-assoc, or-false}
 use Rattle.theory.proofs.Below.{any-from, any-found}
 use Rattle.theory.proofs.Cell.{entitles-trans, entitled-serves, carries-serves, passing-entitles, passing-itself, need-low, need-high, carries-restrict}
 use Rattle.theory.proofs.Register.{cell-register}
-use Rattle.theory.proofs.Way.{Way, start, onward, linkOf}
+use Rattle.theory.proofs.Way.{Way, start, onward, Reach, linkOf, way-root, way-allowed}
 use Rattle.theory.proofs.Level.{enough-way, way-enough, level-most}
 
 -- A rooted chain whose reading entitles p is a way over links that carry what passes p on: every reading of it does.
@@ -117,6 +117,21 @@ module _ (h : Header) (R : List ℕ) (inside : soaOf h < h .n) where
       back r =
           way-enough h R (otherThan i) inside p y
           (record { offices = r .offices; way = unnamed-way i (chain-way p (r .chain) (passing-entitles p)) (r .unnamed) })
+
+  -- '0 for i itself, and 0 for all when i is SOA'
+  independent-none : (i y : ℕ) → (Reach h (otherThan i) (linkOf h R TF) y → otherThan i i ≡ true) → levelIn (independentLevels h R i) y ≡ 0
+  unfolding independentLevels otherThan need passing
+  independent-none i y f =
+      ⊎-elim
+      (λ e. clash (f (enough-way h R (otherThan i) inside TF y (leb-true 1 (levelIn (independentLevels h R i) y) e))) (rw (eq-eqb i i refl)))
+      (λ e. let l = leb-false 1 (levelIn (independentLevels h R i) y) e in omega arith)
+      (decided (leb 1 (levelIn (independentLevels h R i) y)))
+
+  pub independent-itself : (i : ℕ) → levelIn (independentLevels h R i) i ≡ 0
+  independent-itself i = independent-none i i (λ r. way-allowed (r .way))
+
+  pub independent-soa : (y : ℕ) → levelIn (independentLevels h R (soaOf h)) y ≡ 0
+  independent-soa y = independent-none (soaOf h) y (λ r. way-root (r .way))
 
   -- what is computed from the levels is holding
   computed-holds : (p : Permission) (y : ℕ) → y < h .n → holds h R p y ≡ true → Holds h R p y

@@ -7,3 +7,4 @@ pub mod Register
 pub mod Way
 pub mod Level
 pub mod Chain
+pub mod Sound

@@ -36,3 +36,18 @@ pub way-more :
     {offices : List ℕ} {y : ℕ} → Way h allowed passes offices y → Way h allowed′ passes′ offices y
 way-more {h} allowed′ passes′ f g (start a) = start (f (soaOf h) a)
 way-more allowed′ passes′ f g (onward {x} y w l a q) = onward y (way-more allowed′ passes′ f g w) l (f y a) (g x y q)
+
+-- a way starts and ends at allowed offices
+pub way-root :
+    {h : Header} {allowed : ℕ → Bool} {passes : ℕ → ℕ → Bool} {offices : List ℕ} {y : ℕ} →
+    Way h allowed passes offices y →
+    allowed (soaOf h) ≡ true
+way-root (start a) = a
+way-root (onward y w l a q) = way-root w
+
+pub way-allowed :
+    {h : Header} {allowed : ℕ → Bool} {passes : ℕ → ℕ → Bool} {offices : List ℕ} {y : ℕ} →
+    Way h allowed passes offices y →
+    allowed y ≡ true
+way-allowed (start a) = a
+way-allowed (onward y w l a q) = a

@@ -2,17 +2,17 @@
 use Prim.Native.Nat.{ℕ, _≤_, _<_}
 use mathlib.Core.Path.{_≡_, refl, ap, sym, _∙_}
 use mathlib.Core.Logic.{_↔_, ⊎-elim}
-use mathlib.Core.Bool.{true, _&&_, _||_, not}
+use mathlib.Core.Bool.{Bool, true, _&&_, _||_, not}
 use mathlib.Core.List.{List}
-use lib.Dec.{eqb, leb}
-use borrow.Author.Tests.{eqb-true, eq-eqb, leb-true, le-leb}
+use lib.Dec.{eqb, leb, ltb}
+use borrow.Author.Tests.{eqb-true, eq-eqb, leb-true, le-leb, ltb-true}
 use Rattle.rights.specs.declared.Header.{Header}
 use Rattle.rights.specs.Below.{allBelow}
 use Rattle.rights.specs.Permission.{Permission, need, passing, entitles}
 use Rattle.rights.specs.Cell.{has, restrict}
 use Rattle.rights.specs.Register.{cell, soaOf}
 use Rattle.rights.specs.Level.{levels, levelIn, holds}
-use Rattle.rights.specs.Sound.{Entitled, Sound, barred, soundCell, soundBy, sound}
+use Rattle.rights.specs.Sound.{Entitled, Sound, headed, barred, soundCell, soundBy, sound}
 use Rattle.rights.specs.Command.{mayGrant}
 use Rattle.theory.proofs.Tests.{both, left-of, right-of, or-left, or-right, either, implied, implies, same-test}
 use Rattle.theory.proofs.Below.{all-at, all-from}
@@ -51,10 +51,17 @@ module _ (h : Header) (R : List ℕ) where
   pub sound-cells : (sound h R ≡ true) ↔ ((i j : ℕ) → i < h .n → j < h .n → CellSound h R i j)
   unfolding sound soundBy
   sound-cells = (
-    (λ e i j hi hj. cell-sound i j (all-at (h .n) (soundCell h R (levels h R) i) (all-at (h .n) (λ i. allBelow (h .n) (soundCell h R (levels h R) i)) e i hi) j hj)),
-    (λ s. all-from (h .n) (λ i. allBelow (h .n) (soundCell h R (levels h R) i))
-        (λ i hi. all-from (h .n) (soundCell h R (levels h R) i) (λ j hj. sound-cell i j (s i j hi hj)))),
+    (λ e i j hi hj. cell-sound i j (all-at (h .n) (soundCell h R (levels h R) i) (all-at (h .n) row e i hi) j hj)),
+    (λ s. all-from (h .n) row (λ i hi. all-from (h .n) (soundCell h R (levels h R) i) (λ j hj. sound-cell i j (s i j hi hj)))),
   )
+    where
+      row : ℕ → Bool
+      row i = allBelow (h .n) (soundCell h R (levels h R) i)
+
+-- where refusal 1 does not apply, SOA is an office
+pub headed-inside : (h : Header) → headed h ≡ true → soaOf h < h .n
+unfolding headed
+headed-inside h e = ltb-true (soaOf h) (h .n) (right-of (leb 2 (h .n) && leb (h .n) 128) (ltb (soaOf h) (h .n)) e)
 
 module _ (h : Header) (R : List ℕ) (inside : soaOf h < h .n) where
   -- a permission that i holds entitles p exactly where i's level is enough for p

@@ -43,3 +43,9 @@ unfoldable pub uses : (ℕ → ℕ → Bool) → List ℕ → Bool
 uses named [] = false
 uses named (x ∷ []) = false
 uses named (x ∷ y ∷ offices) = named x y || uses named (y ∷ offices)
+
+-- the office holds p by a chain that goes over no link of which the test holds: by none of the grants of a named pair
+pub record HoldsUnused (h : Header) (R : List ℕ) (named : ℕ → ℕ → Bool) (p : Permission) (j : ℕ) : Type 0 where
+  pub offices : List ℕ
+  pub chain : RootedChain h R offices j p
+  pub unused : uses named offices ≡ false

@@ -9,7 +9,7 @@ use borrow.Author.Tests.{eqb-true, leb-true, ltb-true, ltb-false, lt-ltb, le-leb
 use Rattle.rights.specs.Below.{allBelow}
 use Rattle.rights.specs.Permission.{Permission, TT, TF, FT, FF, code, anyPermission, isCode, decoded, entitles, stronger, serves, need, passing}
 use Rattle.rights.specs.Cell.{has, cellOf, size, carries, union, without, lowered, restrict}
-use Rattle.theory.proofs.Tests.{both, left-of, right-of, or-left, or-right, either, fails}
+use Rattle.theory.proofs.Tests.{both, left-of, right-of, or-left, or-right, either, clash, fails}
 use Rattle.theory.proofs.Below.{all-at}
 
 -- a test that passes at p passes at some permission
@@ -292,12 +292,42 @@ carries-serves c q p e s =
     carries-from c (r .by) p (r .stands)
     (right-of (serves (r .by) q && serves q p) (serves (r .by) p) (sym (serves-trans (r .by) q p) ∙ both (r .enough) s))
 
+-- what entitles q entitles whatever q entitles
+pub entitles-trans : (r q p : Permission) → entitles r q ≡ true → entitles q p ≡ true → entitles r p ≡ true
+unfolding entitles
+entitles-trans TT q p e f = refl
+entitles-trans TF TT p e f = clash e refl
+entitles-trans TF TF p e f = f
+entitles-trans TF FT p e f = clash e refl
+entitles-trans TF FF p e f = clash f refl
+entitles-trans FT q p e f = e
+entitles-trans FF q p e f = e
+
 pub TT-serves : (p : Permission) → serves TT p ≡ true
 unfolding serves stronger code
 TT-serves TT = refl
 TT-serves TF = refl
 TT-serves FT = refl
 TT-serves FF = refl
+
+-- what entitles p serves where the reading that passes p on is read
+pub entitled-serves : (q p : Permission) → entitles q p ≡ true → serves q (passing p) ≡ true
+unfolding entitles passing serves stronger code
+entitled-serves TT p e = TT-serves (passing p)
+entitled-serves TF TT e = e
+entitled-serves TF TF e = refl
+entitled-serves TF FT e = e
+entitled-serves TF FF e = refl
+entitled-serves FT p e = clash e refl
+entitled-serves FF p e = clash e refl
+
+-- what passes p on passes itself on
+pub passing-itself : (p : Permission) → entitles (passing p) (passing p) ≡ true
+unfolding entitles passing
+passing-itself TT = refl
+passing-itself TF = refl
+passing-itself FT = refl
+passing-itself FF = refl
 
 -- p is passed on by TT and needs level 2, or by TF and needs level 1
 pub passing-cases : (p : Permission) → ((passing p ≡ TT) × (need p ≡ 2)) ⊎ ((passing p ≡ TF) × (need p ≡ 1))

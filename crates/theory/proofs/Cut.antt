@@ -50,8 +50,3 @@ cut h allowed passes a apart (onward {offices = before} {x = x} y w l s p) =
     (decided (otherThan a y)))
     inr
     (cut h allowed passes a apart w)
-
--- a way comes to offices that are allowed
-pub way-allowed : (h : Header) (allowed : ℕ → Bool) (passes : ℕ → ℕ → Bool) {offices : List ℕ} {y : ℕ} → Way h allowed passes offices y → allowed y ≡ true
-way-allowed h allowed passes (start a) = a
-way-allowed h allowed passes (onward y w l a p) = a

@@ -150,6 +150,11 @@ at-least-1 : (a : Bool) → 1 ≤ cond a 2 1
 at-least-1 true = omega arith
 at-least-1 false = omega arith
 
+at-most-2 : (a b : Bool) → cond a 2 (cond b 1 0) ≤ 2
+at-most-2 true b = omega arith
+at-most-2 false true = omega arith
+at-most-2 false false = omega arith
+
 -- where a level is enough for p: 2 is, and 1 is where TF passes p on
 enough-marks :
     (p : Permission) (whole part : Bool) →
@@ -177,14 +182,22 @@ module _ (h : Header) (R : List ℕ) (allowed : ℕ → Bool) where
       length-table (h .n)
       (λ y. cond (isIn (reached h R allowed TT (h .n)) y) 2 (cond (isIn (reached h R allowed TF (h .n)) y) 1 0))
 
+  level-past : (y : ℕ) → h .n ≤ y → levelIn (levelsAmong h R allowed) y ≡ 0
+  unfolding levelIn
+  level-past y l = List·getD-eq-default (levelsAmong h R allowed) 0 (rw length-levels l)
+
+  -- levels are 0, 1 and 2
+  pub level-most : (y : ℕ) → levelIn (levelsAmong h R allowed) y ≤ 2
+  level-most y =
+      ⊎-elim
+      (λ l. rw (level-at y (ltb-true y (h .n) l)) (at-most-2 (isIn (reached h R allowed TT (h .n)) y) (isIn (reached h R allowed TF (h .n)) y)))
+      (λ l. rw (level-past y (ltb-false y (h .n) l)) (omega arith))
+      (decided (ltb y (h .n)))
+
   -- only offices have a level
   pub level-below : (y : ℕ) → 1 ≤ levelIn (levelsAmong h R allowed) y → y < h .n
-  unfolding levelIn
   level-below y l =
-      ⊎-elim (ltb-true y (h .n))
-      (λ q. absurd
-      (let e : levelIn (levelsAmong h R allowed) y ≡ 0 = List·getD-eq-default (levelsAmong h R allowed) 0 (rw length-levels (ltb-false y (h .n) q)) in omega arith))
-      (decided (ltb y (h .n)))
+      ⊎-elim (ltb-true y (h .n)) (λ q. absurd (let e = level-past y (ltb-false y (h .n) q) in omega arith)) (decided (ltb y (h .n)))
 
 module _ (h : Header) (R : List ℕ) (allowed : ℕ → Bool) (inside : soaOf h < h .n) where
   -- a mark after n rounds is a way, and every way is marked by then
@@ -202,7 +215,7 @@ module _ (h : Header) (R : List ℕ) (allowed : ℕ → Bool) (inside : soaOf h 
       let part = isIn (reached h R allowed TF (h .n)) y in
       ⊎-elim
       (λ t. let w = reached-way TT y t in
-      record { offices = w .offices; way = way-more allowed (linkOf h R (passing p)) (λ x a. a) (TT-link h R (passing p)) (w .way) })
+      record { offices = w .offices; way = way-more inside (linkOf h R (passing p)) (λ x y hx hy. TT-link h R (passing p) x y) (w .way) })
       (λ t. rw (t .1) (reached-way TF y (t .0)))
       (enough-marks p whole part (rw (level-at h R allowed y l) at e))
 

@@ -6,10 +6,12 @@ pub mod Cell
 pub mod Register
 pub mod Way
 pub mod Level
+pub mod Chain
+pub mod Ready
+pub mod Sound
 pub mod Restriction
 pub mod Sweep
 pub mod Standing
-pub mod Ready
 pub mod Cut
 pub mod Local
 pub mod WeakRun

@@ -21,11 +21,11 @@ use Rattle.theory.proofs.Tests.{both, left-of, right-of, or-left, or-ri
 use Rattle.theory.proofs.Below.{same-or-not, below-or-not}
 use Rattle.theory.proofs.Cell.{has-cellOf, cellOf-small, restrict-empty, restrict-fixed, fixed-need, restricted-need, fixed-restrict, gone-above, above-gone, carries-restrict, carries-more, carries-from, carried, serves-need, passing-need, restrict-small}
 use Rattle.theory.proofs.Register.{cell-register, length-register}
-use Rattle.theory.proofs.Way.{Way, start, onward, Reach, linkOf}
-use Rattle.theory.proofs.Level.{enough-way, way-enough}
-use Rattle.theory.proofs.Restriction.{Small, restricted-cell, restricted-small, link-restricted, way-inside, way-more, lower-level, level-high}
+use Rattle.theory.proofs.Way.{Way, start, onward, Reach, linkOf, way-inside, way-more, way-allowed}
+use Rattle.theory.proofs.Level.{enough-way, way-enough, level-most}
+use Rattle.theory.proofs.Restriction.{Small, restricted-cell, restricted-small, link-restricted, lower-level}
 use Rattle.theory.proofs.Standing.{Clean, Fixed, restricted-clean, clean-fixed-sound}
-use Rattle.theory.proofs.Cut.{except, cut, way-allowed, Arrival, shut-out, let-in, not-shut}
+use Rattle.theory.proofs.Cut.{except, cut, Arrival, shut-out, let-in, not-shut}
 
 -- A cut at j by i in a sound register R: only column j has been restricted, and where that cost j something, i has its level by
 -- ways that do not come to j.
@@ -140,7 +140,7 @@ module _ (h : Header) (R : List ℕ) (i j : ℕ) (to : ℕ → ℕ → ℕ) (cut
   way-N p (onward {x = x} y w l a e) =
       let before = way-N p w in
       let ny = not-shut j y a in
-      (ny, onward y (before .1) l refl (link-N p x y (way-inside h inside w) l (before .0) ny e))
+      (ny, onward y (before .1) l refl (link-N p x y (way-inside inside w) l (before .0) ny e))
 
   reach-N : (p : Permission) (y : ℕ) → Reach h (except everyOffice j) (linkOf h R p) y → Reach h everyOffice (linkOf h N p) y
   reach-N p y r = record { offices = r .offices; way = way-N p (r .way) .1 }
@@ -150,9 +150,9 @@ module _ (h : Header) (R : List ℕ) (i j : ℕ) (to : ℕ → ℕ → ℕ) (cut
       (p : Permission) → Arrival h everyOffice (linkOf h M p) j → Reach h everyOffice (linkOf h N p) j
   unfolding linkOf everyOffice M
   arrive p a =
-      let r = way-more h inside (linkOf h R p) (λ x y hx hy e. left-of (linkOf h R p x y) (leb (need p) (to x y)) (sym (link-restricted h R to (clean .small) p x y hx hy) ∙ e)) (a .reach .way) in
+      let r = way-more inside (linkOf h R p) (λ x y hx hy e. left-of (linkOf h R p x y) (leb (need p) (to x y)) (sym (link-restricted h R to (clean .small) p x y hx hy) ∙ e)) (a .reach .way) in
       let before = way-N p r in
-      let hx = way-inside h inside r in
+      let hx = way-inside inside r in
       record {
         offices = a .reach .offices ++ (j ∷ []);
         way = onward j (before .1) revoked refl (carries-N (a .from) j hx revoked p (rw (cell-L (a .from) j hx revoked (before .0)) (a .enters)));
@@ -163,7 +163,7 @@ module _ (h : Header) (R : List ℕ) (i j : ℕ) (to : ℕ → ℕ → ℕ) (cut
   reach-j p e =
       let r = enough-way h M everyOffice inside p j e in
       ⊎-elim
-      (λ (w : Reach h (except everyOffice j) (linkOf h M (passing p)) j). absurd (not-shut j j (way-allowed h (except everyOffice j) (linkOf h M (passing p)) (w .way)) refl))
+      (λ (w : Reach h (except everyOffice j) (linkOf h M (passing p)) j). absurd (not-shut j j (way-allowed (w .way)) refl))
       (arrive (passing p))
       (cut h everyOffice (linkOf h M (passing p)) j (let-in j (soaOf h) notSoa) (r .way))
 
@@ -216,19 +216,19 @@ module _ (h : Header) (R : List ℕ) (i j : ℕ) (to : ℕ → ℕ → ℕ) (cut
       (rw same at (way-enough h R everyOffice inside p x (record { offices = before; way = w }))))
       (λ nx.
       let r = way-kept p w nx in
-      record { offices = r .offices ++ (y ∷ []); way = onward y (r .way) l a (link-N (passing p) x y (way-inside h inside w) l nx ny e) })
+      record { offices = r .offices ++ (y ∷ []); way = onward y (r .way) l a (link-N (passing p) x y (way-inside inside w) l nx ny e) })
       (same-or-not x j)
 
   pub level-kept : (x : ℕ) → (x ≡ j → ⊥) → levelIn (levels h R) x ≤ levelIn (levels h N) x
   unfolding levels
   level-kept x nx =
-      lower-level (levelIn (levels h R) x) (levelIn (levels h N) x) (level-high h R everyOffice x)
+      lower-level (levelIn (levels h R) x) (levelIn (levels h N) x) (level-most h R everyOffice x)
       (λ p e. way-enough h N everyOffice inside p x (way-kept p (enough-way h R everyOffice inside p x e .way) nx))
 
   pub level-j : v ≤ levelIn (levels h N) j
   unfolding levels v
   level-j =
-      lower-level v (levelIn (levels h N) j) (level-high h M everyOffice j)
+      lower-level v (levelIn (levels h N) j) (level-most h M everyOffice j)
       (λ p e. way-enough h N everyOffice inside p j (reach-j p e))
 
   level-i : (p : Permission) → need p ≤ levelIn (levels h R) j → v < need p → need p ≤ levelIn (levels h N) i

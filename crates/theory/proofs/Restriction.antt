@@ -19,11 +19,11 @@ use Rattle.rights.specs.Register.{cell, register, soaOf}
 use Rattle.rights.specs.Level.{levelsAmong, levelIn, levels, everyOffice, isIn, reached, holds, holdsBy}
 use Rattle.rights.specs.Restriction.{restricted, rowsTo, sweep}
 use Rattle.theory.proofs.Tests.{both, left-of, right-of}
-use Rattle.theory.proofs.Below.{length-table, table-at, below-or-not, any-ext}
+use Rattle.theory.proofs.Below.{any-ext}
 use Rattle.theory.proofs.Cell.{carries-restrict, restrict-small, restrict-restrict, passing-need}
 use Rattle.theory.proofs.Register.{cell-register, register-ext, length-register}
-use Rattle.theory.proofs.Way.{Way, start, onward, Reach, linkOf}
-use Rattle.theory.proofs.Level.{enough-way, way-enough}
+use Rattle.theory.proofs.Way.{Way, start, onward, Reach, linkOf, way-inside, way-more}
+use Rattle.theory.proofs.Level.{enough-way, way-enough, level-most, length-levels}
 
 -- each cell is a set of four permissions
 abbrev pub Small : Header → List ℕ → Type 0
@@ -65,42 +65,6 @@ module _ (h : Header) (R : List ℕ) where
   link-restricted to small p i j hi hj =
       ap (λ (c : ℕ). carries c p) (restricted-cell to i j hi hj) ∙ carries-restrict (cell h R i j) (to i j) p (small i j hi hj)
 
--- the office of a way is in range
-module _ (h : Header) (inside : soaOf h < h .n) where
-  pub way-inside : {allowed : ℕ → Bool} {passes : ℕ → ℕ → Bool} {offices : List ℕ} {y : ℕ} → Way h allowed passes offices y → y < h .n
-  way-inside (start a) = inside
-  way-inside (onward y w l a p) = l
-
-  -- less carried anywhere, less reached
-  pub way-more :
-      {allowed : ℕ → Bool} {passes : ℕ → ℕ → Bool} (others : ℕ → ℕ → Bool) →
-      ((x y : ℕ) → x < h .n → y < h .n → passes x y ≡ true → others x y ≡ true) →
-      {offices : List ℕ} {y : ℕ} → Way h allowed passes offices y → Way h allowed others offices y
-  way-more others more (start a) = start a
-  way-more others more (onward {x = x} y w l a p) = onward y (way-more others more w) l a (more x y (way-inside w) l p)
-
--- the levels are at most 2, one for each office
-level-value : (a b : Bool) → cond a 2 (cond b 1 0) ≤ 2
-level-value true b = omega arith
-level-value false true = omega arith
-level-value false false = omega arith
-
-module _ (h : Header) (R : List ℕ) (allowed : ℕ → Bool) where
-  levelRule : ℕ → ℕ
-  levelRule j = cond (isIn (reached h R allowed TT (h .n)) j) 2 (cond (isIn (reached h R allowed TF (h .n)) j) 1 0)
-
-  pub length-levels : length (levelsAmong h R allowed) ≡ h .n
-  unfolding levelsAmong levelRule
-  length-levels = length-table (h .n) levelRule
-
-  pub level-high : (y : ℕ) → levelIn (levelsAmong h R allowed) y ≤ 2
-  unfolding levelsAmong levelIn levelRule
-  level-high y =
-      ⊎-elim
-      (λ (l : y < h .n). rw (table-at (h .n) levelRule y 0 l) (level-value (isIn (reached h R allowed TT (h .n)) y) (isIn (reached h R allowed TF (h .n)) y)))
-      (λ (l : h .n ≤ y). rw (List·getD-eq-default (table (h .n) levelRule) 0 {n = y} (rw (length-table (h .n) levelRule) l)) (omega arith))
-      (below-or-not y (h .n))
-
 -- a level that is enough for less is lower
 pub lower-level : (a b : ℕ) → a ≤ 2 → ((p : Permission) → need p ≤ a → need p ≤ b) → a ≤ b
 unfolding need
@@ -132,10 +96,10 @@ module _ (h : Header) (inside : soaOf h < h .n) where
       ((p : Permission) (x y : ℕ) → x < h .n → y < h .n → linkOf h R p x y ≡ true → linkOf h S p x y ≡ true) →
       (y : ℕ) → levelIn (levelsAmong h R allowed) y ≤ levelIn (levelsAmong h S allowed) y
   levels-lower allowed R S less y =
-      lower-level (levelIn (levelsAmong h R allowed) y) (levelIn (levelsAmong h S allowed) y) (level-high h R allowed y)
+      lower-level (levelIn (levelsAmong h R allowed) y) (levelIn (levelsAmong h S allowed) y) (level-most h R allowed y)
       (λ p e.
       let r = enough-way h R allowed inside p y e in
-      way-enough h S allowed inside p y (record { offices = r .offices; way = way-more h inside (linkOf h S (passing p)) (less (passing p)) (r .way) }))
+      way-enough h S allowed inside p y (record { offices = r .offices; way = way-more inside (linkOf h S (passing p)) (less (passing p)) (r .way) }))
 
   -- a restricted register has lower levels
   pub levels-restricted-lower :
@@ -154,16 +118,16 @@ module _ (h : Header) (inside : soaOf h < h .n) where
     way-kept p (start a) = start a
     way-kept p (onward {offices = before} {x = x} y w l a e) =
         let enough : need p ≤ levelIn (levelsAmong h R allowed) x = way-enough h R allowed inside p x (record { offices = before; way = w }) in
-        let below = keeps x y (way-inside h inside w) l in
+        let below = keeps x y (way-inside inside w) l in
         let stays : leb (need (passing p)) (to x y) ≡ true = le-leb (need (passing p)) (to x y) (omega (arith, passing-need p)) in
-        onward y (way-kept p w) l a (link-restricted h R to small (passing p) x y (way-inside h inside w) l ∙ both e stays)
+        onward y (way-kept p w) l a (link-restricted h R to small (passing p) x y (way-inside inside w) l ∙ both e stays)
 
     -- so nobody's level changes
     pub levels-kept : levelsAmong h (restricted h R to) allowed ≡ levelsAmong h R allowed
     levels-kept =
         same-levels h allowed (restricted h R to) R (levels-restricted-lower allowed R to small)
         (λ y.
-        lower-level (levelIn (levelsAmong h R allowed) y) (levelIn (levelsAmong h (restricted h R to) allowed) y) (level-high h R allowed y)
+        lower-level (levelIn (levelsAmong h R allowed) y) (levelIn (levelsAmong h (restricted h R to) allowed) y) (level-most h R allowed y)
         (λ p e.
         let r = enough-way h R allowed inside p y e in
         way-enough h (restricted h R to) allowed inside p y (record { offices = r .offices; way = way-kept p (r .way) })))

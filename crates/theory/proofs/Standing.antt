@@ -5,19 +5,15 @@ use mathlib.Core.Path.{_≡_, refl, ap, ap₂, sym, _∙_}
 use mathlib.Core.Bool.{Bool, true, false, _&&_, _||_, not}
 use mathlib.Core.List.{List}
 use lib.ListN.{length}
-use lib.Dec.{eqb, leb}
-use borrow.Author.Tests.{eqb-true, eq-eqb, leb-true, le-leb}
 use Rattle.rights.specs.declared.Header.{Header}
-use Rattle.rights.specs.Below.{allBelow}
 use Rattle.rights.specs.Cell.{restrict}
 use Rattle.rights.specs.Register.{cell, soaOf}
 use Rattle.rights.specs.Level.{levelIn, levels}
-use Rattle.rights.specs.Sound.{barred, soundCell, soundBy, sound}
+use Rattle.rights.specs.Sound.{barred, sound}
 use Rattle.rights.specs.Restriction.{restricted, rowsTo, sweep}
-use Rattle.theory.proofs.Tests.{both, parts-of, implied, implies}
-use Rattle.theory.proofs.Below.{all-at, all-from}
 use Rattle.theory.proofs.Cell.{restrict-empty, restrict-restrict}
 use Rattle.theory.proofs.Register.{same-cells}
+use Rattle.theory.proofs.Sound.{sound-cells}
 use Rattle.theory.proofs.Restriction.{Small, restricted-cell, restricted-small, length-restricted}
 use Rattle.theory.proofs.Sweep.{levels-sweep}
 
@@ -34,40 +30,20 @@ abbrev pub Fixed : Header → List ℕ → Type 0
 Fixed h R = (i j : ℕ) → i < h .n → j < h .n → restrict (cell h R i j) (levelIn (levels h R) i) ≡ cell h R i j
 
 module _ (h : Header) (R : List ℕ) where
-  -- what soundness says of one cell
-  sound-cell :
-      sound h R ≡ true → (i j : ℕ) → i < h .n → j < h .n →
-      (leb (cell h R i j) 15 ≡ true)
-      × (not (barred h i j) || eqb (cell h R i j) 0 ≡ true)
-      × (eqb (restrict (cell h R i j) (levelIn (levels h R) i)) (cell h R i j) ≡ true)
-  unfolding sound soundBy soundCell
-  sound-cell e i j hi hj =
-      parts-of (leb (cell h R i j) 15) (not (barred h i j) || eqb (cell h R i j) 0)
-      (eqb (restrict (cell h R i j) (levelIn (levels h R) i)) (cell h R i j))
-      (all-at (h .n) (soundCell h R (levels h R) i) (all-at (h .n) (λ i. allBelow (h .n) (λ j. soundCell h R (levels h R) i j)) e i hi) j hj)
-
   pub sound-clean : sound h R ≡ true → Clean h R
   sound-clean e =
       record {
-        small = λ i j hi hj. leb-true (cell h R i j) 15 (sound-cell e i j hi hj .0);
-        unbarred = λ i j hi hj b.
-            eqb-true (cell h R i j) 0 (implied (barred h i j) (eqb (cell h R i j) 0) (sound-cell e i j hi hj .1) b);
+        small = λ i j hi hj. sound-cells h R .0 e i j hi hj .small;
+        unbarred = λ i j hi hj b. sound-cells h R .0 e i j hi hj .empty b;
       }
 
   pub sound-fixed : sound h R ≡ true → Fixed h R
-  sound-fixed e i j hi hj =
-      eqb-true (restrict (cell h R i j) (levelIn (levels h R) i)) (cell h R i j) (sound-cell e i j hi hj .2)
+  sound-fixed e i j hi hj = sound-cells h R .0 e i j hi hj .kept
 
   pub clean-fixed-sound : Clean h R → Fixed h R → sound h R ≡ true
-  unfolding sound soundBy soundCell
   clean-fixed-sound clean fixed =
-      all-from (h .n) (λ i. allBelow (h .n) (λ j. soundCell h R (levels h R) i j))
-      (λ i hi. all-from (h .n) (λ j. soundCell h R (levels h R) i j)
-      (λ j hj.
-      both
-      (both (le-leb (cell h R i j) 15 (clean .small i j hi hj))
-      (implies (barred h i j) (eqb (cell h R i j) 0) (λ b. eq-eqb (cell h R i j) 0 (clean .unbarred i j hi hj b))))
-      (eq-eqb (restrict (cell h R i j) (levelIn (levels h R) i)) (cell h R i j) (fixed i j hi hj))))
+      sound-cells h R .1
+      (λ i j hi hj. record { small = clean .small i j hi hj; empty = clean .unbarred i j hi hj; kept = fixed i j hi hj })
 
   -- a sweep leaves a sound register as it is
   pub sweep-sound : length R ≡ h .n * h .n → sound h R ≡ true → sweep h R ≡ R

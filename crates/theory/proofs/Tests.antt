@@ -29,6 +29,35 @@ pub either : (a b : Bool) → a || b ≡ true → (a ≡ true) ⊎ (b ≡ true)
 either true b p = inl refl
 either false b p = inr p
 
+-- neither passes
+pub neither : {a b : Bool} → a ≡ false → b ≡ false → a || b ≡ false
+neither p q = rw (p, q)
+
+pub not-left : (a b : Bool) → a || b ≡ false → a ≡ false
+not-left true b p = p
+not-left false b p = refl
+
+pub not-right : (a b : Bool) → a || b ≡ false → b ≡ false
+not-right true b p = cc
+not-right false b p = p
+
+pub or-assoc : (a b c : Bool) → a || b || c ≡ a || (b || c)
+or-assoc true b c = refl
+or-assoc false b c = refl
+
+pub or-false : (a : Bool) → a || false ≡ a
+or-false true = refl
+or-false false = refl
+
+-- a test that says: where a passes, b does
+pub implied : (a b : Bool) → not a || b ≡ true → a ≡ true → b ≡ true
+implied true b p q = p
+implied false b p q = cc
+
+pub implies : (a b : Bool) → (a ≡ true → b ≡ true) → not a || b ≡ true
+implies true b f = f refl
+implies false b f = refl
+
 -- a test passes or fails
 pub decided : (a : Bool) → (a ≡ true) ⊎ (a ≡ false)
 decided true = inl refl
@@ -48,12 +77,3 @@ same-test false false f g = refl
 pub fails : (a : Bool) → (a ≡ true → ⊥) → a ≡ false
 fails true f = absurd (f refl)
 fails false f = refl
-
--- an implication as a test
-pub implied : (a b : Bool) → not a || b ≡ true → a ≡ true → b ≡ true
-implied true b p q = p
-implied false b p q = clash q refl
-
-pub implies : (a b : Bool) → (a ≡ true → b ≡ true) → not a || b ≡ true
-implies true b f = f refl
-implies false b f = refl

@@ -28,11 +28,35 @@ pub record Reach (h : Header) (allowed : ℕ → Bool) (passes : ℕ → ℕ →
   pub offices : List ℕ
   pub way : Way h allowed passes offices y
 
--- where more is allowed and more passes, every way is still one
+-- a way ends in range
+pub way-inside :
+    {h : Header} → soaOf h < h .n →
+    {allowed : ℕ → Bool} {passes : ℕ → ℕ → Bool} {offices : List ℕ} {y : ℕ} →
+    Way h allowed passes offices y → y < h .n
+way-inside inside (start a) = inside
+way-inside inside (onward y w l a p) = l
+
+-- where more passes, every way is still one
 pub way-more :
-    {h : Header} {allowed : ℕ → Bool} {passes : ℕ → ℕ → Bool} (allowed′ : ℕ → Bool) (passes′ : ℕ → ℕ → Bool) →
-    ((x : ℕ) → allowed x ≡ true → allowed′ x ≡ true) →
-    ((x y : ℕ) → passes x y ≡ true → passes′ x y ≡ true) →
-    {offices : List ℕ} {y : ℕ} → Way h allowed passes offices y → Way h allowed′ passes′ offices y
-way-more {h} allowed′ passes′ f g (start a) = start (f (soaOf h) a)
-way-more allowed′ passes′ f g (onward {x} y w l a q) = onward y (way-more allowed′ passes′ f g w) l (f y a) (g x y q)
+    {h : Header} → soaOf h < h .n →
+    {allowed : ℕ → Bool} {passes : ℕ → ℕ → Bool} (others : ℕ → ℕ → Bool) →
+    ((x y : ℕ) → x < h .n → y < h .n → passes x y ≡ true → others x y ≡ true) →
+    {offices : List ℕ} {y : ℕ} → Way h allowed passes offices y → Way h allowed others offices y
+way-more inside others more (start a) = start a
+way-more inside others more (onward {x = x} y w l a p) =
+    onward y (way-more inside others more w) l a (more x y (way-inside inside w) l p)
+
+-- a way starts and ends at allowed offices
+pub way-root :
+    {h : Header} {allowed : ℕ → Bool} {passes : ℕ → ℕ → Bool} {offices : List ℕ} {y : ℕ} →
+    Way h allowed passes offices y →
+    allowed (soaOf h) ≡ true
+way-root (start a) = a
+way-root (onward y w l a q) = way-root w
+
+pub way-allowed :
+    {h : Header} {allowed : ℕ → Bool} {passes : ℕ → ℕ → Bool} {offices : List ℕ} {y : ℕ} →
+    Way h allowed passes offices y →
+    allowed y ≡ true
+way-allowed (start a) = a
+way-allowed (onward y w l a q) = a

@@ -4,6 +4,7 @@ pub mod Permission
 pub mod Cell
 pub mod Register
 pub mod Chain
+pub mod Order
 pub mod Level
 pub mod Sound
 pub mod Restriction

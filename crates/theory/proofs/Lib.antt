@@ -9,9 +9,17 @@ pub mod Level
 pub mod Chain
 pub mod Ready
 pub mod Sound
+pub mod Reading
+pub mod Order
+pub mod Walk
+pub mod Smallest
+pub mod Shortest
+pub mod Picked
 pub mod Restriction
 pub mod Sweep
 pub mod Standing
 pub mod Cut
 pub mod Local
 pub mod WeakRun
+pub mod Rest
+pub mod Accepted

@@ -46,6 +46,14 @@ way-more inside others more (start a) = start a
 way-more inside others more (onward {x = x} y w l a p) =
     onward y (way-more inside others more w) l a (more x y (way-inside inside w) l p)
 
+-- where more is allowed, every way is still one
+pub way-among :
+    {h : Header} {allowed : ℕ → Bool} {passes : ℕ → ℕ → Bool} (others : ℕ → Bool) →
+    ((x : ℕ) → allowed x ≡ true → others x ≡ true) →
+    {offices : List ℕ} {y : ℕ} → Way h allowed passes offices y → Way h others passes offices y
+way-among {h} others more (start a) = start (more (soaOf h) a)
+way-among others more (onward y w l a p) = onward y (way-among others more w) l (more y a) p
+
 -- a way starts and ends at allowed offices
 pub way-root :
     {h : Header} {allowed : ℕ → Bool} {passes : ℕ → ℕ → Bool} {offices : List ℕ} {y : ℕ} →

@@ -11,3 +11,7 @@ pub mod Deletion
 pub mod Tally
 pub mod Command
 pub mod Question
+-- its worked cases
+pub mod Maps
+pub mod Cases
+pub mod Agreement

@@ -1,6 +1,6 @@
 -- A command with its refusals (01, 'Commands' and 'Refusal numbers').
 use Prim.Native.Nat.{ℕ}
-use mathlib.Core.Bool.{Bool, true, false, _&&_, _||_, not, cond}
+use mathlib.Core.Bool.{Bool, true, false, _&&_, not, cond}
 use mathlib.Core.List.{List}
 use lib.Dec.{eqb, ltb, leb}
 use Rattle.rights.specs.declared.Header.{Header}

@@ -13,3 +13,7 @@ pub mod Tally
 pub mod Command
 pub mod Question
 pub mod Run
+-- its worked cases
+pub mod Maps
+pub mod Cases
+pub mod Agreement

@@ -1,7 +1,6 @@
 -- The tally of a command: 'records removed (stood before, not after) and added (after, not before)' (01, 'Commands').
-use Prim.Native.Nat.{ℕ, _*_}
+use Prim.Native.Nat.{ℕ}
 use mathlib.Core.List.{List}
-use lib.ListN.{getD}
 use Rattle.rights.specs.declared.Header.{Header}
 use Rattle.rights.specs.Below.{sumBelow}
 use Rattle.rights.specs.Cell.{size, without}

@@ -1,0 +1,77 @@
+-- The starred cases of 01, 'Cuts on a small map', each under its line of 01, and two more that 01's list leaves open.
+-- Where 01 gives no tally, it is the one that 01's words give.
+use Prim.Native.Nat.{ℕ}
+use mathlib.Core.List.{List, [], _∷_}
+use Rattle.rights.specs.declared.Command.{Command}
+use Rattle.rights.specs.Permission.{Permission, TT, TF, FT, code}
+use Rattle.rights.specs.Maps.{Map, map, mapA, mapB, mapC, mapD, mapE}
+
+pub data Case : Type 0 where
+  -- commands in turn, with the tally of all of them
+  cut : (on : Map) (commands : List Command) (answers : List ℕ) (removed added : ℕ) (leaves : Map) → Case
+  -- a holding question
+  ask : (on : Map) (office : ℕ) (perm : Permission) (answer : ℕ) (chain : List ℕ) → Case
+
+-- act, by, to and perm, to the maps' layer
+unfoldable pub command : ℕ → ℕ → ℕ → ℕ → Command
+command act i j perm =
+    record { act = act; layer = record { 0 = 7 }; by = record { 0 = i }; to = record { 0 = j }; perm = perm }
+
+unfoldable pub GRANT : ℕ → ℕ → Permission → Command
+GRANT i j p = command 0 i j (code p)
+
+unfoldable pub WLD : ℕ → ℕ → Command
+WLD i j = command 1 i j 0
+
+unfoldable pub WGD : ℕ → ℕ → Command
+WGD i j = command 2 i j 0
+
+unfoldable pub SLD : ℕ → ℕ → Command
+SLD i j = command 3 i j 0
+
+unfoldable pub SGD : ℕ → ℕ → Command
+SGD i j = command 4 i j 0
+
+-- what case 1, case 4 and the WLD of case 7 leave
+unfoldable pub leftByOne : Map
+leftByOne = map 5 ((0, 3, TF) ∷ (2, 4, TF) ∷ (3, 2, TF) ∷ [])
+
+unfoldable pub leftByFour : Map
+leftByFour = map 5 ((0, 1, TT) ∷ (0, 3, TF) ∷ (1, 4, TT) ∷ (2, 4, TF) ∷ (3, 2, TF) ∷ [])
+
+unfoldable pub leftBySeven : Map
+leftBySeven = map 3 ((0, 2, TT) ∷ (2, 1, TT) ∷ [])
+
+unfoldable pub cases : List Case
+cases =
+    -- 1. 'A, WGD 0,1: 0→3 TF, 2→4 TF, 3→2 TF; removed 3, added 1.'
+    cut mapA (WGD 0 1 ∷ []) (0 ∷ []) 3 1 leftByOne ∷
+    -- 2. 'A, WLD 0,1: 0→2 TT, 0→3 TF, 2→4 TT, 3→2 TF; 2, 1.'
+    cut mapA (WLD 0 1 ∷ []) (0 ∷ []) 2 1 (map 5 ((0, 2, TT) ∷ (0, 3, TF) ∷ (2, 4, TT) ∷ (3, 2, TF) ∷ [])) ∷
+    -- 3. 'A, WGD 1,2: 0→1 TT, 0→3 TF, 2→4 TF, 3→2 TF; 2, 1.'
+    cut mapA (WGD 1 2 ∷ []) (0 ∷ []) 2 1 (map 5 ((0, 1, TT) ∷ (0, 3, TF) ∷ (2, 4, TF) ∷ (3, 2, TF) ∷ [])) ∷
+    -- 4. 'A, WLD or SLD 1,2: 0→1 TT, 0→3 TF, 1→4 TT, 2→4 TF, 3→2 TF; 2, 2.'
+    cut mapA (WLD 1 2 ∷ []) (0 ∷ []) 2 2 leftByFour ∷
+    cut mapA (SLD 1 2 ∷ []) (0 ∷ []) 2 2 leftByFour ∷
+    -- 5. 'A, WGD 0,1 with WGD 3,2, either order: 0→3 TF.'
+    cut mapA (WGD 0 1 ∷ WGD 3 2 ∷ []) (0 ∷ 0 ∷ []) 5 1 (map 5 ((0, 3, TF) ∷ [])) ∷
+    cut mapA (WGD 3 2 ∷ WGD 0 1 ∷ []) (0 ∷ 0 ∷ []) 4 0 (map 5 ((0, 3, TF) ∷ [])) ∷
+    -- 6. 'B, WGD 1,2: 0→1 TT, 1→3 TT, 3→2 TF. SGD 1,2: 0→1 TT, 1→3 TT.'
+    cut mapB (WGD 1 2 ∷ []) (0 ∷ []) 1 0 (map 4 ((0, 1, TT) ∷ (1, 3, TT) ∷ (3, 2, TF) ∷ [])) ∷
+    cut mapB (SGD 1 2 ∷ []) (0 ∷ []) 2 0 (map 4 ((0, 1, TT) ∷ (1, 3, TT) ∷ [])) ∷
+    -- 7. 'C, WGD 0,1: empty. WLD 0,1: 0→2 TT, 2→1 TT, so 1 still holds TT.'
+    cut mapC (WGD 0 1 ∷ []) (0 ∷ []) 3 0 (map 3 []) ∷
+    cut mapC (WLD 0 1 ∷ []) (0 ∷ []) 2 1 leftBySeven ∷
+    ask leftBySeven 1 TT 0 (0 ∷ 2 ∷ 1 ∷ []) ∷
+    -- 8. 'A, 4 for TF: chain 0,1,2,4. 0 for TT: chain 0. 3 for FT: 12. After case 1, 4 for TF: 0,3,2,4.'
+    ask mapA 4 TF 0 (0 ∷ 1 ∷ 2 ∷ 4 ∷ []) ∷
+    ask mapA 0 TT 0 (0 ∷ []) ∷
+    ask mapA 3 FT 12 [] ∷
+    ask leftByOne 4 TF 0 (0 ∷ 3 ∷ 2 ∷ 4 ∷ []) ∷
+    -- Beyond 01's list: an SGD of two rounds. The first takes 0→2 TF and so 2→3 TF, the second 0→3 FF.
+    cut mapD (SGD 0 1 ∷ []) (0 ∷ []) 5 0 (map 4 []) ∷
+    -- Beyond 01's list: an FT holder passes nothing on. FT comes to 3 over TT links. Without 2→1 TT office 1 holds FT and no level,
+    -- so 1→3 FT goes, and 1 cannot grant it again.
+    ask mapE 3 FT 0 (0 ∷ 2 ∷ 1 ∷ 3 ∷ []) ∷
+    cut mapE (WGD 2 1 ∷ GRANT 1 3 FT ∷ []) (0 ∷ 8 ∷ []) 2 0 (map 4 ((0, 1, FT) ∷ (0, 2, TT) ∷ [])) ∷
+    []

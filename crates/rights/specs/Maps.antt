@@ -1,0 +1,51 @@
+-- The small maps of 01, 'Cuts on a small map', written as 01 writes them: a list of records.
+use Prim.Native.Nat.{ℕ, _+_, _*_}
+use mathlib.Core.List.{List, [], _∷_}
+use lib.ListN.{getD, set, replicate}
+use Rattle.rights.specs.declared.Header.{Header}
+use Rattle.rights.specs.Permission.{Permission, TT, TF, FT, FF, code}
+
+-- a record: grantor, subject, permission; 01's '0→1 TT' is (0, 1, TT)
+abbrev pub Grant : Type 0
+Grant = ℕ × ℕ × Permission
+
+-- how many offices there are, and the records that stand
+pub record Map : Type 0 where
+  pub n : ℕ
+  pub grants : List Grant
+
+unfoldable pub map : ℕ → List Grant → Map
+map n grants = record { n = n; grants = grants }
+
+-- 'SOA is 0', and the layer is that of the program's example
+unfoldable pub headerOf : Map → Header
+headerOf m = record { n = m .n; soa = record { 0 = 0 }; layer = record { 0 = 7 } }
+
+-- n·n zeros, and each record's code added to 'byte i·n + j'
+unfoldable pub drawn : ℕ → List Grant → List ℕ
+drawn n [] = replicate (n * n) 0
+drawn n (g ∷ grants) =
+    let rest = drawn n grants in
+    let place : ℕ = g .0 * n + g .1 in
+    set rest place (getD rest place 0 + code (g .2))
+
+-- the register that the map shows
+unfoldable pub bytesOf : Map → List ℕ
+bytesOf m = drawn (m .n) (m .grants)
+
+unfoldable pub mapA : Map
+mapA = map 5 ((0, 1, TT) ∷ (0, 3, TF) ∷ (1, 2, TT) ∷ (2, 4, TT) ∷ (3, 2, TF) ∷ [])
+
+unfoldable pub mapB : Map
+mapB = map 4 ((0, 1, TT) ∷ (1, 2, TT) ∷ (1, 3, TT) ∷ (3, 2, TF) ∷ [])
+
+unfoldable pub mapC : Map
+mapC = map 3 ((0, 1, TT) ∷ (1, 2, TT) ∷ (2, 1, TT) ∷ [])
+
+-- Beyond 01's list: office 2 holds TT by 1 and TF by SOA, office 3 holds TF by 2 and FF by SOA.
+unfoldable pub mapD : Map
+mapD = map 4 ((0, 1, TT) ∷ (0, 2, TF) ∷ (0, 3, FF) ∷ (1, 2, TT) ∷ (2, 3, TF) ∷ [])
+
+-- Beyond 01's list: office 1 holds TT by 2 and FT by SOA.
+unfoldable pub mapE : Map
+mapE = map 4 ((0, 1, FT) ∷ (0, 2, TT) ∷ (1, 3, FT) ∷ (2, 1, TT) ∷ [])

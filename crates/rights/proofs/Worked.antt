@@ -8,7 +8,7 @@ use Rattle.rights.specs.Register.{cell, register}
 use Rattle.rights.specs.Level.{isIn, linked, reached, levelsAmong, everyOffice, otherThan, levels, independentLevels, levelIn, holdsBy, holds}
 use Rattle.rights.specs.Sound.{headed, whole, barred, soundCell, soundBy, sound, firstOf, unless, registerRefusal}
 use Rattle.rights.specs.Restriction.{restricted, emptyWhere, isCell, rowTo, rowsTo, columnsTo, sweep, emptied}
-use Rattle.rights.specs.Deletion.{granted, wgd, handedCell, handedOver, rowSettled, wld, columnStep, sld, losers, strongRound, same, untilRest, sgd}
+use Rattle.rights.specs.Deletion.{grantedCell, granted, wgd, handedCell, handedOver, rowSettled, wld, columnStep, sld, losers, strongRound, same, untilRest, sgd}
 use Rattle.rights.specs.Tally.{missing}
 use Rattle.rights.specs.Command.{isGrant, wellFormed, mayGrant, grantRefusal, deletionRefusal, formRefusal, refusal, carriedOut, refused, done, outcome}
 use Rattle.rights.specs.Question.{single, nearer, linksAway, fewestLinks, lastOf, smallest, pickedChain, questionRefusal, shown, notShown, answered}
@@ -25,7 +25,7 @@ unfolding
     isIn linked reached levelsAmong everyOffice otherThan levels independentLevels levelIn holdsBy holds
     headed whole barred soundCell soundBy sound firstOf unless registerRefusal
     restricted emptyWhere isCell rowTo rowsTo columnsTo sweep emptied
-    granted wgd handedCell handedOver rowSettled wld columnStep sld losers strongRound same untilRest sgd
+    grantedCell granted wgd handedCell handedOver rowSettled wld columnStep sld losers strongRound same untilRest sgd
     missing
     isGrant wellFormed mayGrant grantRefusal deletionRefusal formRefusal refusal carriedOut refused done outcome
     single nearer linksAway fewestLinks lastOf smallest pickedChain questionRefusal shown notShown answered

@@ -12,8 +12,11 @@ use Rattle.rights.specs.Level.{isIn, levels, independentLevels, levelIn,
 use Rattle.rights.specs.Restriction.{restricted, isCell, rowTo, columnsTo, sweep, emptied}
 
 -- 'Grant: adds the record.'
+unfoldable pub grantedCell : Header → List ℕ → ℕ → ℕ → Permission → ℕ → ℕ → ℕ
+grantedCell h R i j p x y = cond (isCell i j x y) (union (cell h R x y) (code p)) (cell h R x y)
+
 unfoldable pub granted : Header → List ℕ → ℕ → ℕ → Permission → List ℕ
-granted h R i j p = register h (λ x y. cond (isCell i j x y) (union (cell h R x y) (code p)) (cell h R x y))
+granted h R i j p = register h (grantedCell h R i j p)
 
 -- 'WGD: empty the cell i, j; sweep.'
 unfoldable pub wgd : Header → List ℕ → ℕ → ℕ → List ℕ

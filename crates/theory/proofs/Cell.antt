@@ -386,3 +386,18 @@ gone-above c v p h e l = gone-need c v p h ∙ both e (lt-ltb v (need p) l)
 -- and nothing else is
 pub above-gone : (c v : ℕ) (p : Permission) → c ≤ 15 → has c p && not (has (restrict c v) p) ≡ true → v < need p
 above-gone c v p h e = ltb-true v (need p) (right-of (has c p) (ltb v (need p)) (sym (gone-need c v p h) ∙ e))
+
+-- a permission is the one that its code stands for
+pub decoded-code : (p : Permission) → decoded (code p) ≡ p
+unfolding decoded code
+decoded-code TT = refl
+decoded-code TF = refl
+decoded-code FT = refl
+decoded-code FF = refl
+
+-- the cell of one record has that record alone
+pub one-record : (p q : Permission) → has (code p) q ≡ true → q ≡ p
+unfolding eachPermission has code
+one-record p q e =
+    let same = eqb-true (code p) (code q) (sym (by-pairs (λ p q. has (code p) q) (λ p q. eqb (code p) (code q)) refl p q) ∙ e) in
+    sym (decoded-code q) ∙ ap decoded (sym same) ∙ decoded-code p

@@ -20,6 +20,8 @@ pub mod Sweep
 pub mod Standing
 pub mod Cut
 pub mod Local
-pub mod WeakRun
+pub mod LocalDeletion
+pub mod Granting
 pub mod Rest
-pub mod Accepted
+pub mod Outcome
+pub mod WeakRun

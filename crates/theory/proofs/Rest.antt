@@ -22,12 +22,8 @@ use Rattle.theory.proofs.Growth.{marked, marked-most, settled}
 use Rattle.theory.proofs.Level.{level-most}
 use Rattle.theory.proofs.Register.{same-cells}
 use Rattle.theory.proofs.Restriction.{Small, restricted-small, restricted-ext, restricted-twice, length-restricted}
-use Rattle.theory.proofs.Sweep.{absorb}
+use Rattle.theory.proofs.Sweep.{absorb, length-sweep}
 use Rattle.theory.proofs.Standing.{Clean, restricted-clean, swept-sound}
-
-length-sweep : (h : Header) (R : List ℕ) → length (sweep h R) ≡ h .n * h .n
-unfolding sweep
-length-sweep h R = length-restricted h R (rowsTo (levels h R))
 
 -- the two ways a round goes on
 module _ (h : Header) (R own : List ℕ) (k : ℕ) (S : List ℕ) where

@@ -5,13 +5,18 @@ use native.Mathlib.Omega.{arith}
 use mathlib.Core.Path.{_≡_, refl, ap, ap₂, sym, _∙_}
 use mathlib.Core.Bool.{Bool, true, false}
 use mathlib.Core.List.{List}
+use lib.ListN.{length}
 use Rattle.rights.specs.declared.Header.{Header}
 use Rattle.rights.specs.Permission.{Permission}
 use Rattle.rights.specs.Cell.{restrict}
 use Rattle.rights.specs.Register.{cell, soaOf}
 use Rattle.rights.specs.Level.{levelIn, levels, everyOffice, holds}
 use Rattle.rights.specs.Restriction.{restricted, rowsTo, sweep}
-use Rattle.theory.proofs.Restriction.{Small, restricted-small, restricted-ext, restricted-twice, levels-kept, levels-restricted-lower, holds-kept}
+use Rattle.theory.proofs.Restriction.{Small, length-restricted, restricted-small, restricted-ext, restricted-twice, levels-kept, levels-restricted-lower, holds-kept}
+
+pub length-sweep : (h : Header) (R : List ℕ) → length (sweep h R) ≡ h .n * h .n
+unfolding sweep
+length-sweep h R = length-restricted h R (rowsTo (levels h R))
 
 module _ (h : Header) (inside : soaOf h < h .n) (R : List ℕ) (small : Small h R) where
   -- a sweep changes nobody's level

@@ -24,7 +24,8 @@ use Rattle.theory.proofs.Register.{same-cells}
 use Rattle.theory.proofs.Restriction.{Small, restricted-cell, restricted-small, restricted-ext, restricted-twice, length-restricted}
 use Rattle.theory.proofs.Sweep.{absorb, holds-sweep}
 use Rattle.theory.proofs.Ready.{Ready, headed-inside, whole-length, ready-register}
-use Rattle.theory.proofs.Standing.{Clean, sound-clean, sweep-sound, swept-sound, restricted-clean}
+use Rattle.theory.proofs.Standing.{sound-clean, sweep-sound}
+use Rattle.theory.proofs.Outcome.{outcome-refused, outcome-done, outcome-ready}
 
 restrict-where : (c : ℕ) (t : Bool) → (t ≡ true → c ≡ 0) → restrict c (cond t 0 2) ≡ c
 unfolding restrict
@@ -56,18 +57,6 @@ wgd-empty h R ready i j e =
     ap (sweep h) (restricted-where h R (isCell i j) (whole-length h R (ready .whole)) (λ x y hx hy t. is-cell h R i j x y t e))
     ∙ sweep-sound h R (whole-length h R (ready .whole)) (ready .sound)
 
--- a WGD leaves a register as 01 has it
-pub wgd-ready : (h : Header) (R : List ℕ) → Ready h R → (i j : ℕ) → Ready h (wgd h R i j)
-unfolding wgd emptied whole sweep
-wgd-ready h R ready i j =
-    let inside = headed-inside h (ready .headed) in
-    let M = restricted h R (emptyWhere (isCell i j)) in
-    record {
-      headed = ready .headed;
-      whole = eq-eqb (length (sweep h M)) (h .n * h .n) (length-restricted h M (rowsTo (levels h M)));
-      sound = swept-sound h M inside (restricted-clean h R (emptyWhere (isCell i j)) (sound-clean h R (ready .sound)));
-    }
-
 -- a WGD as demand 3 has it is refused with 7 or 10, or not at all
 weak-refusal :
     (h : Header) (R : List ℕ) → Ready h R → (c : Command) → WeakGlobal h c →
@@ -82,15 +71,6 @@ weak-refusal h R ready c weak =
       lt-ltb (byOf c) (h .n) (weak .by),
       lt-ltb (toOf c) (h .n) (weak .to),
     )
-
--- a refused command leaves the register
-pub outcome-refused : (h : Header) (R : List ℕ) (c : Command) → eqb (refusal h R c) 0 ≡ false → outcome h R c .cells ≡ R
-unfolding outcome refused
-outcome-refused h R c e = rw e
-
-pub outcome-done : (h : Header) (R : List ℕ) (c : Command) → eqb (refusal h R c) 0 ≡ true → outcome h R c .cells ≡ carriedOut h R c
-unfolding outcome done
-outcome-done h R c e = rw e
 
 -- whatever a WGD as demand 3 has it answers, it leaves the register as emptying its cell and sweeping would
 pub weak-step : (h : Header) (R : List ℕ) → Ready h R → (c : Command) → WeakGlobal h c → outcome h R c .cells ≡ wgd h R (byOf c) (toOf c)
@@ -130,7 +110,7 @@ weak-run h R ready all (more c {commands} weak weaks) =
     let small = sound-clean h R (ready .sound) .small in
     let first = isCell (byOf c) (toOf c) in
     rw (weak-step h R ready c weak)
-    (weak-run h (wgd h R (byOf c) (toOf c)) (wgd-ready h R ready (byOf c) (toOf c)) commands weaks
+    (weak-run h (wgd h R (byOf c) (toOf c)) (rw (← weak-step h R ready c weak) (outcome-ready h R ready c)) commands weaks
     ∙ absorb h inside (restricted h R (emptyWhere first)) (restricted-small h R (emptyWhere first) small) (emptyWhere (namesPair commands))
     ∙ ap (sweep h)
     (restricted-twice h R (emptyWhere first) (emptyWhere (namesPair commands))

@@ -1,4 +1,4 @@
--- Law 4: every accepted command leaves a sound register sound. Assumes nothing.
+-- WLD and SLD leave a sound register sound: the local lemma at their column steps. Assumes nothing.
 use Prim.Native.Nat.{ℕ, zero, suc, _+_, _*_, _≤_, _<_, min}
 use native.Mathlib.Omega.{arith}
 use mathlib.Core.Path.{_≡_, refl, ap, ap₂, sym, _∙_}
@@ -9,20 +9,21 @@ use lib.ListN.{length}
 use lib.Dec.{eqb, leb}
 use borrow.Author.Tests.{eqb-true, eqb-false, eq-eqb, ne-eqb, le-leb}
 use Rattle.rights.specs.declared.Header.{Header}
-use Rattle.rights.specs.Permission.{Permission, need, passing}
-use Rattle.rights.specs.Cell.{has, carries, restrict}
+use Rattle.rights.specs.Permission.{Permission, code, need, passing}
+use Rattle.rights.specs.Cell.{has, carries, restrict, union}
 use Rattle.rights.specs.Register.{cell, soaOf}
 use Rattle.rights.specs.Level.{everyOffice, otherThan, levels, levelIn, independentLevels}
 use Rattle.rights.specs.Sound.{barred, sound}
 use Rattle.rights.specs.Restriction.{restricted, emptyWhere, isCell, columnsTo, emptied}
-use Rattle.rights.specs.Deletion.{wld, sld, columnStep, rowSettled}
-use Rattle.theory.proofs.Tests.{both, left-of, right-of, not-left, not-right, decided}
+use Rattle.rights.specs.Deletion.{granted, wld, sld, columnStep, rowSettled}
+use Rattle.theory.proofs.Tests.{both, left-of, right-of, or-left, or-false, either, not-left, not-right, decided, clash}
 use Rattle.theory.proofs.Below.{same-or-not, below-or-not}
-use Rattle.theory.proofs.Cell.{carries-restrict, passing-need, need-high}
+use Rattle.theory.proofs.Cell.{has-cellOf, cellOf-small, one-record, restrict-fixed, fixed-need, carries-more, passing-need, need-high}
+use Rattle.theory.proofs.Register.{cell-register}
 use Rattle.theory.proofs.Way.{Way, start, onward, Reach, linkOf, way-inside, way-among, way-allowed}
 use Rattle.theory.proofs.Level.{enough-way, way-enough}
-use Rattle.theory.proofs.Restriction.{restricted-cell, link-restricted}
-use Rattle.theory.proofs.Standing.{sound-clean, sound-fixed}
+use Rattle.theory.proofs.Restriction.{link-restricted, levels-lower}
+use Rattle.theory.proofs.Standing.{Clean, sound-clean, sound-fixed, clean-fixed-sound}
 use Rattle.theory.proofs.Cut.{except, cut, Arrival, shut-out, let-in, not-shut}
 use Rattle.theory.proofs.Local.{Cutting, settled-sound}
 

@@ -4,7 +4,7 @@ use native.Mathlib.Omega.{arith}
 use mathlib.Core.Path.{_≡_, refl, ap, ap₂, sym, _∙_}
 use mathlib.Core.Logic.{_⊎_, inl, inr, ⊎-elim, _↔_}
 use mathlib.Core.Bool.{Bool, true, false, _&&_, _||_, not, cond}
-use mathlib.Core.List.{List, [], _∷_}
+use mathlib.Core.List.{List, [], _∷_, List·Permᴰ, List·Permᴰ·nil, List·Permᴰ·cons, List·Permᴰ·swap, List·Permᴰ·trans}
 use lib.ListN.{length}
 use lib.Dec.{eqb, leb, ltb}
 use borrow.Author.Tests.{eqb-true, eqb-false, eq-eqb, lt-ltb}
@@ -13,6 +13,7 @@ use Rattle.rights.specs.declared.Command.{Command}
 use Rattle.rights.specs.Permission.{Permission}
 use Rattle.rights.specs.Cell.{restrict}
 use Rattle.rights.specs.Register.{cell, soaOf}
+use Rattle.rights.specs.Chain.{Holds, HoldsUnused}
 use Rattle.rights.specs.Level.{levels, holds}
 use Rattle.rights.specs.Sound.{headed, whole, sound, barred, firstOf, unless, registerRefusal}
 use Rattle.rights.specs.Restriction.{restricted, emptyWhere, isCell, rowsTo, sweep, emptied}
@@ -22,6 +23,7 @@ use Rattle.rights.specs.Run.{ran, WeakGlobal, WeakGlobals, none, more, namesPai
 use Rattle.theory.proofs.Tests.{left-of, right-of, clash}
 use Rattle.theory.proofs.Register.{same-cells}
 use Rattle.theory.proofs.Restriction.{Small, restricted-cell, restricted-small, restricted-ext, restricted-twice, length-restricted}
+use Rattle.theory.proofs.Chain.{holds-chain, holds-unused}
 use Rattle.theory.proofs.Sweep.{absorb, holds-sweep}
 use Rattle.theory.proofs.Ready.{Ready, headed-inside, whole-length, ready-register}
 use Rattle.theory.proofs.Standing.{sound-clean, sweep-sound}
@@ -130,3 +132,42 @@ weak-runs-agree h R ready some others ws wo e =
     (restricted-ext h R (emptyWhere (namesPair some)) (emptyWhere (namesPair others))
     (λ x y hx hy. ap (λ (t : Bool). cond t 0 2) (e x y hx hy)))
     ∙ sym (weak-run h R ready others wo)
+
+-- a reordered list names the same pairs
+or-swap : (a b c : Bool) → a || (b || c) ≡ b || (a || c)
+or-swap true true c = refl
+or-swap true false c = refl
+or-swap false b c = refl
+
+names-reordered :
+    {some others : List Command} → List·Permᴰ some others → (x y : ℕ) → namesPair some x y ≡ namesPair others x y
+unfolding namesPair
+names-reordered List·Permᴰ·nil x y = refl
+names-reordered (List·Permᴰ·cons e d) x y = ap₂ _||_ (ap (λ (c : Command). isCell (byOf c) (toOf c) x y) e) (names-reordered d x y)
+names-reordered (List·Permᴰ·swap {a} {b} {a′} {b′} {l} e f) x y =
+    rw (e, f) (or-swap (isCell (byOf b′) (toOf b′) x y) (isCell (byOf a′) (toOf a′) x y) (namesPair l x y))
+names-reordered (List·Permᴰ·trans d e) x y = names-reordered d x y ∙ names-reordered e x y
+
+-- in particular a run may be reordered
+pub weak-runs-reordered :
+    (h : Header) (R : List ℕ) → Ready h R →
+    (some others : List Command) → WeakGlobals h some → WeakGlobals h others → List·Permᴰ some others →
+    ran h R some ≡ ran h R others
+weak-runs-reordered h R ready some others ws wo e = weak-runs-agree h R ready some others ws wo (λ x y hx hy. names-reordered e x y)
+
+-- Demand 3, what it leaves: an office holds p exactly where the register at the start has a rooted chain for p that uses no grant of
+-- a named pair
+pub weak-run-holds :
+    (h : Header) (R : List ℕ) → Ready h R → (commands : List Command) → WeakGlobals h commands →
+    (p : Permission) (y : ℕ) → y < h .n → Holds h (ran h R commands) p y ↔ HoldsUnused h R (namesPair commands) p y
+weak-run-holds h R ready commands weak p y hy =
+    let inside = headed-inside h (ready .headed) in
+    let small = sound-clean h R (ready .sound) .small in
+    let M = restricted h R (emptyWhere (namesPair commands)) in
+    let at-end = holds-chain h (ran h R commands) inside p y hy in
+    let at-start = holds-chain h M inside p y hy in
+    let unused = holds-unused h R inside small (namesPair commands) p y in
+    let same : holds h (ran h R commands) p y ≡ holds h M p y =
+    ap (λ (S : List ℕ). holds h S p y) (weak-run h R ready commands weak) ∙ holds-sweep h inside M (restricted-small h R (emptyWhere (namesPair commands)) small) p y hy
+    in
+    ((λ e. unused .0 (at-start .0 (sym same ∙ at-end .1 e))), (λ u. at-end .0 (same ∙ at-start .1 (unused .1 u))))

@@ -1,0 +1,152 @@
+-- The checks of the register reader behind 13: what it means that none of them refuses, and that none refuses a sound register.
+use Prim.Native.Nat.{ℕ, _*_, _≤_, _<_}
+use mathlib.Core.Path.{_≡_, refl, sym, ap, _∙_}
+use mathlib.Core.Bool.{Bool, true, false, _&&_, _||_, not, cond, or-true}
+use mathlib.Core.List.{List, _∷_}
+use native.Mathlib.Omega.{arith}
+use lib.Dec.{eqb, ltb, leb}
+use lib.ListN.{length}
+use borrow.Author.Tests.{ltb-true, ltb-false, leb-true, eqb-true, lt-ltb, le-ltb, not-false}
+use Rattle.rights.specs.declared.Header.{Header}
+use Rattle.rights.specs.Below.{allBelow}
+use Rattle.rights.specs.Permission.{Permission, code, decoded}
+use Rattle.rights.specs.Cell.{has}
+use Rattle.rights.specs.Register.{cell, soaOf}
+use Rattle.rights.specs.Level.{levels}
+use Rattle.rights.specs.Sound.{headed, whole, sound, soundBy, soundCell, barred}
+use Rattle.wording.specs.Records.{Record}
+use Rattle.wording.specs.RegisterReader.{Content, anyRecord, outside, forbidden, filled, contentRefusal}
+use Rattle.wording.proofs.Truth.{never, and-left, and-right}
+use Rattle.wording.proofs.Register.{all-below}
+use Rattle.wording.proofs.Cell.{has-zero, code-decoded}
+use Rattle.wording.proofs.Order.{Ascending, none, more, stands, stands-first}
+use Rattle.wording.proofs.CellRecords.{allRecords, all-ascending, stands-all}
+use Rattle.wording.proofs.Filled.{filled-all}
+
+-- a refusal that is not given
+off : (t : Bool) (k x : ℕ) → 1 ≤ k → cond t k x ≡ 0 → (t ≡ false) × (x ≡ 0)
+off true k x h e = let z : ⊥ = omega arith in absurd z
+off false k x h e = (refl, e)
+
+-- no check behind 13 refuses the content
+pub record Accepted (t : Content) (size : ℕ) : Type 0 where
+  pub headed-ok : headed (t .header) ≡ true
+  pub room-ok : t .header .n * t .header .n ≤ size
+  pub inside-ok : anyRecord (outside (t .header)) (t .records) ≡ false
+  pub allowed-ok : anyRecord (forbidden (t .header)) (t .records) ≡ false
+  pub sound-ok : sound (t .header) (filled (t .header) (t .records)) ≡ true
+
+pub accepted : (t : Content) (size : ℕ) → contentRefusal t size ≡ 0 → Accepted t size
+unfolding contentRefusal
+accepted t size e =
+    let one = off (not (headed (t .header))) 1 _ (omega arith) e in
+    let two = off (ltb size (t .header .n * t .header .n)) 2 _ (omega arith) (one .1) in
+    let six = off (anyRecord (outside (t .header)) (t .records)) 6 _ (omega arith) (two .1) in
+    let seven = off (anyRecord (forbidden (t .header)) (t .records)) 7 _ (omega arith) (six .1) in
+    let three = off (not (sound (t .header) (filled (t .header) (t .records)))) 3 _ (omega arith) (seven .1) in
+    record {
+      headed-ok = not-false _ (one .0);
+      room-ok = ltb-false size (t .header .n * t .header .n) (two .0);
+      inside-ok = six .0;
+      allowed-ok = seven .0;
+      sound-ok = not-false _ (three .0);
+    }
+
+pub not-refused : (t : Content) (size : ℕ) → Accepted t size → contentRefusal t size ≡ 0
+unfolding contentRefusal
+not-refused t size a =
+    rw (a .headed-ok, le-ltb size (t .header .n * t .header .n) (a .room-ok), a .inside-ok, a .allowed-ok, a .sound-ok)
+
+pub headed-small : (h : Header) → headed h ≡ true → h .n ≤ 128
+unfolding headed
+headed-small h e = leb-true (h .n) 128 (and-right (leb 2 (h .n)) _ (and-left _ _ e))
+
+pub headed-soa : (h : Header) → headed h ≡ true → soaOf h < h .n
+unfolding headed
+headed-soa h e = ltb-true (soaOf h) (h .n) (and-right (leb 2 (h .n) && leb (h .n) 128) _ e)
+
+or-left : (a b : Bool) → (a || b) ≡ false → a ≡ false
+or-left true b e = e
+or-left false b e = refl
+
+or-right : (a b : Bool) → (a || b) ≡ false → b ≡ false
+or-right true b e = never (cc)
+or-right false b e = e
+
+-- records none of which is outside are between offices below n
+pub inside : {m lo hi : ℕ} {rs : List Record} (h : Header) → anyRecord (outside h) rs ≡ false → Ascending m lo hi rs → Ascending (h .n) lo hi rs
+unfolding anyRecord outside
+inside h e (none f) = none f
+inside h e (more {r} {rs} p f a) =
+    let here = not-false _ (or-left (outside h r) _ e) in
+    more
+    (record {
+      by-below = ltb-true (r .by) (h .n) (and-left _ _ here);
+      to-below = ltb-true (r .to) (h .n) (and-right (ltb (r .by) (h .n)) _ here);
+      coded = p .coded;
+    })
+    f (inside h (or-right (outside h r) _ e) a)
+
+-- and the other way round
+none-outside : {lo hi : ℕ} {rs : List Record} (h : Header) → Ascending (h .n) lo hi rs → anyRecord (outside h) rs ≡ false
+unfolding anyRecord outside
+none-outside h (none f) = refl
+none-outside h (more {r} {rs} p f a) =
+    rw (lt-ltb (r .by) (h .n) (p .by-below), lt-ltb (r .to) (h .n) (p .to-below)) (none-outside h a)
+
+-- records between offices below n are between offices below a larger number
+pub wider : {n lo hi : ℕ} {rs : List Record} (m : ℕ) → n ≤ m → Ascending n lo hi rs → Ascending m lo hi rs
+wider m h (none f) = none f
+wider m h (more {r} p f a) =
+    let b : r .by < m = omega arith in
+    let t : r .to < m = omega arith in
+    more (record { by-below = b; to-below = t; coded = p .coded }) f (wider m h a)
+
+-- no record is forbidden if none stands where no grant may
+none-forbidden :
+    {lo hi : ℕ} {rs : List Record} (h : Header) → Ascending (h .n) lo hi rs →
+    ((i j : ℕ) (q : Permission) → i < h .n → j < h .n → stands rs i j (code q) ≡ true → barred h i j ≡ false) →
+    anyRecord (forbidden h) rs ≡ false
+unfolding anyRecord forbidden stands
+none-forbidden h (none f) free = refl
+none-forbidden h (more {r} {rs} p f a) free =
+    let stood = ap (stands (r ∷ rs) (r .by) (r .to)) (code-decoded (r .perm) (p .coded)) ∙ stands-first r rs in
+    rw (free (r .by) (r .to) (decoded (r .perm)) (p .by-below) (p .to-below) stood)
+    (none-forbidden h a (λ i j q hi hj e. free i j q hi hj (rw (e, or-true))))
+
+module _ (h : Header) (R : List ℕ) (tested : sound h R ≡ true) where
+  sound-cell : (i j : ℕ) → i < h .n → j < h .n → soundCell h R (levels h R) i j ≡ true
+  unfolding sound soundBy
+  sound-cell i j hi hj =
+      all-below (h .n) (soundCell h R (levels h R) i) j
+      (all-below (h .n) (λ x. allBelow (h .n) (λ y. soundCell h R (levels h R) x y)) i tested hi) hj
+
+  pub sound-small : (i j : ℕ) → i < h .n → j < h .n → cell h R i j ≤ 15
+  unfolding soundCell
+  sound-small i j hi hj = leb-true (cell h R i j) 15 (and-left _ _ (and-left _ _ (sound-cell i j hi hj)))
+
+  sound-free : (i j : ℕ) (q : Permission) → i < h .n → j < h .n → has (cell h R i j) q ≡ true → barred h i j ≡ false
+  unfolding soundCell
+  sound-free i j q hi hj e = go (barred h i j) (and-right (leb (cell h R i j) 15) _ (and-left _ _ (sound-cell i j hi hj)))
+    where
+      go : (b : Bool) → (not b || eqb (cell h R i j) 0) ≡ true → b ≡ false
+      go true z = never (cc (eqb-true (cell h R i j) 0 z, has-zero q))
+      go false z = refl
+
+-- no check refuses the records of a sound register
+pub accepted-sound :
+    (h : Header) (R : List ℕ) (size : ℕ) → headed h ≡ true → whole h R ≡ true → sound h R ≡ true → h .n * h .n ≤ size →
+    Accepted (record { header = h; records = allRecords h R }) size
+unfolding whole
+accepted-sound h R size head full tested room =
+    let small = headed-small h head in
+    let narrow : h .n ≤ 65536 = omega arith in
+    let ascending = all-ascending h R narrow in
+    let same = filled-all h R narrow (eqb-true (length R) (h .n * h .n) full) (sound-small h R tested) in
+    record {
+      headed-ok = head;
+      room-ok = room;
+      inside-ok = none-outside h ascending;
+      allowed-ok = none-forbidden h ascending (λ i j q hi hj e. sound-free h R tested i j q hi hj (sym (stands-all h R i j q hi hj) ∙ e));
+      sound-ok = rw same tested;
+    }

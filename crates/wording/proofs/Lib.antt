@@ -1,0 +1,20 @@
+-- The laws of the text, and a few texts as the definitions read them.
+pub mod Truth
+pub mod Number
+pub mod Line
+pub mod Lines
+pub mod CommandText
+pub mod Register
+pub mod Cell
+pub mod Order
+pub mod CellRecords
+pub mod Filled
+pub mod Records
+pub mod Steps
+pub mod Content
+pub mod Accepted
+pub mod RegisterText
+pub mod Writers
+pub mod Length
+pub mod BadLine
+pub mod Examples

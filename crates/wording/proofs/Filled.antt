@@ -10,7 +10,8 @@ use Rattle.rights.specs.declared.Header.{Header}
 use Rattle.rights.specs.Permission.{Permission, code, decoded}
 use Rattle.rights.specs.Cell.{has, union}
 use Rattle.rights.specs.Register.{cell, register}
-use Rattle.rights.specs.Deletion.{granted}
+use Rattle.rights.specs.Restriction.{isCell}
+use Rattle.rights.specs.Deletion.{grantedCell, granted}
 use Rattle.wording.specs.Records.{Record}
 use Rattle.wording.specs.RegisterReader.{nothing, added, filled}
 use Rattle.wording.proofs.Register.{length-register, cell-register, same-cells}
@@ -23,7 +24,7 @@ module _ (h : Header) where
   has-granted :
       (R : List ℕ) (i j : ℕ) (p : Permission) (x y : ℕ) (q : Permission) → x < h .n → y < h .n →
       has (cell h (granted h R i j p) x y) q ≡ (has (cell h R x y) q || (eqb x i && (eqb y j && eqb (code q) (code p))))
-  unfolding granted
+  unfolding granted grantedCell isCell
   has-granted R i j p x y q hx hy =
       ap (λ c. has c q) (cell-register h (λ x y. cond (eqb x i && eqb y j) (union (cell h R x y) (code p)) (cell h R x y)) x y hx hy)
       ∙ go (eqb x i) (eqb y j)
@@ -47,7 +48,7 @@ module _ (h : Header) where
 
   small-granted :
       (R : List ℕ) (i j : ℕ) (p : Permission) (x y : ℕ) → x < h .n → y < h .n → cell h R x y ≤ 15 → cell h (granted h R i j p) x y ≤ 15
-  unfolding granted union
+  unfolding granted grantedCell isCell union
   small-granted R i j p x y hx hy small =
       rw (cell-register h (λ x y. cond (eqb x i && eqb y j) (union (cell h R x y) (code p)) (cell h R x y)) x y hx hy) (go (eqb x i && eqb y j))
     where

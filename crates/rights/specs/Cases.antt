@@ -1,10 +1,10 @@
--- The starred cases of 01, 'Cuts on a small map', each under its line of 01, and two more that 01's list leaves open.
+-- The starred cases of 01, 'Cuts on a small map', each under its line of 01, and more that 01's list leaves open.
 -- Where 01 gives no tally, it is the one that 01's words give.
 use Prim.Native.Nat.{ℕ}
 use mathlib.Core.List.{List, [], _∷_}
 use Rattle.rights.specs.declared.Command.{Command}
-use Rattle.rights.specs.Permission.{Permission, TT, TF, FT, code}
-use Rattle.rights.specs.Maps.{Map, map, mapA, mapB, mapC, mapD, mapE}
+use Rattle.rights.specs.Permission.{Permission, TT, TF, FT, FF, code}
+use Rattle.rights.specs.Maps.{Map, map, mapA, mapB, mapC, mapD, mapE, mapF, mapG, mapH}
 
 pub data Case : Type 0 where
   -- commands in turn, with the tally of all of them
@@ -74,4 +74,16 @@ cases =
     -- so 1→3 FT goes, and 1 cannot grant it again.
     ask mapE 3 FT 0 (0 ∷ 2 ∷ 1 ∷ 3 ∷ []) ∷
     cut mapE (WGD 2 1 ∷ GRANT 1 3 FT ∷ []) (0 ∷ 8 ∷ []) 2 0 (map 4 ((0, 1, FT) ∷ (0, 2, TT) ∷ [])) ∷
+    -- Beyond 01's list: 'the smallest list compared from SOA on' is not found from its end, where 3 is smaller than 4.
+    ask mapF 5 TT 0 (0 ∷ 1 ∷ 4 ∷ 5 ∷ []) ∷
+    -- Beyond 01's list: FF at the end of a TF chain. The link 0→2 carries FF alone, which passes nothing on, so 0,2,3 is no chain.
+    ask mapG 3 FF 0 (0 ∷ 1 ∷ 2 ∷ 3 ∷ []) ∷
+    -- Beyond 01's list: 'SOA alone is a chain for every p at SOA', also where the register is empty.
+    ask mapA 0 TF 0 (0 ∷ []) ∷
+    ask mapA 0 FT 0 (0 ∷ []) ∷
+    ask mapA 0 FF 0 (0 ∷ []) ∷
+    ask mapH 0 TT 0 (0 ∷ []) ∷
+    ask mapH 0 TF 0 (0 ∷ []) ∷
+    ask mapH 0 FT 0 (0 ∷ []) ∷
+    ask mapH 0 FF 0 (0 ∷ []) ∷
     []

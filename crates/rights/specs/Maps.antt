@@ -49,3 +49,15 @@ mapD = map 4 ((0, 1, TT) ∷ (0, 2, TF) ∷ (0, 3, FF) ∷ (1, 2, TT) ∷ (2, 3,
 -- Beyond 01's list: office 1 holds TT by 2 and FT by SOA.
 unfoldable pub mapE : Map
 mapE = map 4 ((0, 1, FT) ∷ (0, 2, TT) ∷ (1, 3, FT) ∷ (2, 1, TT) ∷ [])
+
+-- Beyond 01's list: the smaller office next to 5 is on the larger chain.
+unfoldable pub mapF : Map
+mapF = map 6 ((0, 1, TT) ∷ (0, 2, TT) ∷ (1, 4, TT) ∷ (2, 3, TT) ∷ (4, 5, TT) ∷ (3, 5, TT) ∷ [])
+
+-- Beyond 01's list: office 2 holds FF by SOA, and TF by 1 alone.
+unfoldable pub mapG : Map
+mapG = map 4 ((0, 1, TF) ∷ (1, 2, TF) ∷ (0, 2, FF) ∷ (2, 3, FF) ∷ [])
+
+-- Beyond 01's list: nobody grants anything.
+unfoldable pub mapH : Map
+mapH = map 3 []

@@ -1,0 +1,3 @@
+-- What the loops over columns have in common.
+pub mod Marked
+pub mod Unique

@@ -1,0 +1,63 @@
+-- `columns::restrict_marked_of` meets its contract: the row lies within the register, and comes back restricted. Assumes nothing.
+use Prim.Native.Nat.{_+_, _-_, _*_}
+use native.Mathlib.Omega.{arith}
+use mathlib.Core.Path.{refl, ap, _∙_}
+use borrow.Rule.Slice.PartMut.{putMid}
+use Rattle.rows.proofs.Part.{row-end, square-small}
+use Rattle.columns.proofs.Marked.{put-marked-to}
+use borrow.Author.Needs.{needs}
+use Rattle.columns.proofs.restrict_marked_of.Statement.{statement}
+use Rattle.columns.proofs.restrict_marked_of.Tie as tie
+
+cast-n : tie.Need-cast-n
+cast-n c = search needs
+
+mul-start : tie.Need-mul-start
+mul-start c =
+    let n = c .before .before .args .header .n in
+    omega (arith, row-end n (c .before .before .args .i) (c .before .before .pre .1), square-small n (c .before .before .pre .0 .few), c .before .before .pre .0 .cells)
+
+add-end : tie.Need-add-end
+add-end c =
+    let n = c .before .before .args .header .n in
+    omega (arith, row-end n (c .before .before .args .i) (c .before .before .pre .1), square-small n (c .before .before .pre .0 .few), c .before .before .pre .0 .cells)
+
+sub-restrict-marked : tie.Need-sub-restrict-marked
+sub-restrict-marked c = search needs
+
+part-restrict-marked-start : tie.Need-part-restrict-marked-start
+part-restrict-marked-start c = search needs
+
+part-restrict-marked-end : tie.Need-part-restrict-marked-end
+part-restrict-marked-end c =
+    let n = c .before .before .args .header .n in
+    omega (arith, row-end n (c .before .before .args .i) (c .before .before .pre .1), square-small n (c .before .before .pre .0 .few), c .before .before .pre .0 .cells)
+
+restrict-marked-requires : tie.Need-restrict-marked-requires
+restrict-marked-requires c κs = search needs
+
+same-length : tie.Need-same-length
+same-length c = search needs
+
+returns : tie.Need-returns
+returns c =
+    let start = c .before .before .before .before .before .before in
+    let h = start .args .header in
+    let i = start .args .i in
+    let R = start .args .cells .now in
+    ap (putMid (i * h .n) (i * h .n + h .n - i * h .n) R) (c .before .before .restrict-marked .ensures)
+    ∙ put-marked-to h R (start .pre .0) i (start .pre .1) (i * h .n + h .n) refl (start .args .columns) (start .args .level)
+
+pub restrict-marked-of-spec : {M : Type 1} → statement M
+restrict-marked-of-spec =
+    tie.close
+    (tie.spec
+    cast-n
+    mul-start
+    add-end
+    sub-restrict-marked
+    part-restrict-marked-start
+    part-restrict-marked-end
+    restrict-marked-requires
+    same-length
+    returns)

@@ -1,0 +1,2 @@
+-- How the code's answer is the definitions' outcome.
+pub mod Post

@@ -1,0 +1,38 @@
+-- Functions that change a register only where it is one, one after the other. Assumes nothing.
+use Prim.Native.Nat.{ℕ, _*_}
+use mathlib.Core.Path.{_≡_, refl, ap, sym, _∙_}
+use mathlib.Core.Logic.{⊎-elim}
+use mathlib.Core.Bool.{Bool, true, false, _&&_, cond}
+use mathlib.Core.List.{List}
+use lib.ListN.{length}
+use borrow.Author.Tests.{eq-eqb}
+use Rattle.rights.specs.declared.Header.{Header}
+use Rattle.rights.specs.Sound.{headed, whole}
+use Rattle.theory.proofs.Tests.{both, left-of, decided}
+use Rattle.rows.specs.Whole.{ifWhole}
+
+-- what is done only to a register may be told for registers alone
+pub if-whole-ext :
+    (h : Header) (R S T : List ℕ) → (headed h && whole h R ≡ true → S ≡ T) → ifWhole h R S ≡ ifWhole h R T
+unfolding ifWhole
+if-whole-ext h R S T e =
+    ⊎-elim
+    (λ (t : headed h && whole h R ≡ true). rw t (e t))
+    (λ (t : headed h && whole h R ≡ false). rw t)
+    (decided (headed h && whole h R))
+
+-- n·n cells make the same register again
+pub still-whole : (h : Header) (R S : List ℕ) → headed h && whole h R ≡ true → length S ≡ h .n * h .n → headed h && whole h S ≡ true
+unfolding whole
+still-whole h R S t e = both (left-of (headed h) (whole h R) t) (eq-eqb (length S) (h .n * h .n) e)
+
+-- two steps, each of them only where there is a register
+pub if-whole-then :
+    (h : Header) (R S : List ℕ) (f : List ℕ → List ℕ) → length S ≡ h .n * h .n →
+    ifWhole h (ifWhole h R S) (f (ifWhole h R S)) ≡ ifWhole h R (f S)
+unfolding ifWhole
+if-whole-then h R S f e =
+    ⊎-elim
+    (λ (t : headed h && whole h R ≡ true). rw t (rw (still-whole h R S t e)))
+    (λ (t : headed h && whole h R ≡ false). rw t (rw t))
+    (decided (headed h && whole h R))

@@ -1,0 +1,2 @@
+-- What the helpers of the deletions give.
+pub mod Kept

@@ -1,0 +1,2 @@
+-- What the loops over grantors and offices decide at each of them.
+pub mod Loser

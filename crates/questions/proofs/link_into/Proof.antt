@@ -1,0 +1,27 @@
+-- `questions::link_into` meets its contract, by what stands in the set and what the cell carries. Assumes nothing.
+use borrow.Author.Needs.{needs}
+use Rattle.rights.specs.Level.{isIn}
+use Rattle.questions.specs.Step.{linkInto}
+use Rattle.questions.proofs.link_into.Statement.{statement}
+use Rattle.questions.proofs.link_into.Tie as tie
+
+element-copy-out-if1 : tie.Need-element-copy-out-if1
+element-copy-out-if1 c = search needs
+
+cell-requires : tie.Need-cell-requires
+cell-requires c κs = search needs
+
+carries-requires : tie.Need-carries-requires
+carries-requires c κs = search needs
+
+returns : tie.Need-returns
+unfolding linkInto isIn
+returns c = rw (c .before .before .if1 .taken, ← c .before .cell .ensures) (c .carries .ensures)
+
+returns-2 : tie.Need-returns-2
+unfolding linkInto isIn
+returns-2 c = rw (c .if1 .left)
+
+pub link-into-spec : {M : Type 1} → statement M
+link-into-spec =
+    tie.close (tie.spec element-copy-out-if1 cell-requires carries-requires returns returns-2)

@@ -1,0 +1,2 @@
+-- What the helpers of strong global deletion give.
+pub mod Same

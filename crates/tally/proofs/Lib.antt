@@ -1,0 +1,3 @@
+-- What the tally rests on.
+pub mod Sum
+pub mod Unique

@@ -32,12 +32,12 @@ module _ (m : ℕ) (R : List ℕ) where
       let zeros : m - min (length R) m ≡ m - length R = omega arith in
       ⊎-elim
       (λ (l : length R < m).
-        let short : min (length R) m ≡ length R = omega arith in
-        rw (short, take-length R, take-all m R (omega arith)))
+      let short : min (length R) m ≡ length R = omega arith in
+      rw (short, take-length R, take-all m R (omega arith)))
       (λ (l : m ≤ length R).
-        let long : min (length R) m ≡ m = omega arith in
-        let none : m - m ≡ m - length R = omega arith in
-        rw (long, none))
+      let long : min (length R) m ≡ m = omega arith in
+      let none : m - m ≡ m - length R = omega arith in
+      rw (long, none))
       (below-or-not (length R) m)
 
 -- a register of at most that many bytes is the start of its copy

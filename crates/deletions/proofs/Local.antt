@@ -47,12 +47,12 @@ lent h R X t e {M} {copy} m c =
     let is : M ≡ X = m ∙ rw t in
     let long : length M ≡ length R = ap length is ∙ e ∙ sym (whole-length h R (right-of (headed h) (whole h R) t)) in
     let same : take (length M) copy ≡ R = rw (long, c) (copy-start R few) in
-    record
-      { here = rw is (still-whole h R X t e)
-      ; back = rw same t
-      ; room = rw (long, c, long-copy R few) few
-      ; same = same
-      }
+    record {
+      here = rw is (still-whole h R X t e);
+      back = rw same t;
+      room = rw (long, c, long-copy R few) few;
+      same = same;
+    }
 
 -- a local deletion whose column step leaves X
 pub local-made :

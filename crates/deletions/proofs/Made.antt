@@ -90,7 +90,7 @@ pub settle-made :
 unfolding ifBothWhole ifWhole rowSettled readable
 settle-made h B M i j {v = v} m b e level l c s =
     let settled : restricted h M (rowTo j v) ≡ restricted h M (rowTo j (levelIn (levels h M) j)) =
-        ap (λ (v : ℕ). restricted h M (rowTo j v)) (level ∙ ap (λ (ls : List ℕ). levelIn ls j) (e ∙ levels-read h M m) ∙ level-padded (levels h M) j)
+    ap (λ (v : ℕ). restricted h M (rowTo j v)) (level ∙ ap (λ (ls : List ℕ). levelIn ls j) (e ∙ levels-read h M m) ∙ level-padded (levels h M) j)
     in
     let N = restricted h M (rowTo j (levelIn (levels h M) j)) in
     let kept : ifWhole h M (restricted h M (rowTo j v)) ≡ N = rw m settled in

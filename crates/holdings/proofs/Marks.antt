@@ -34,9 +34,10 @@ mark-padded h R before S after y =
 -- both registers can be read
 pub both-readable : (h : Header) (R S : List ℕ) → headed h && whole h R && whole h S ≡ true → (readable h R ≡ true) × (readable h S ≡ true)
 unfolding readable
-both-readable h R S e =
-    ( left-of (headed h && whole h R) (whole h S) e
-    , both (left-of (headed h) (whole h R) (left-of (headed h && whole h R) (whole h S) e)) (right-of (headed h && whole h R) (whole h S) e))
+both-readable h R S e = (
+  left-of (headed h && whole h R) (whole h S) e,
+  both (left-of (headed h) (whole h R) (left-of (headed h && whole h R) (whole h S) e)) (right-of (headed h && whole h R) (whole h S) e),
+)
 
 pub few : (h : Header) (R S : List ℕ) → headed h && whole h R && whole h S ≡ true → h .n ≤ 128
 few h R S e = headed-high h (left-of (headed h) (whole h R) (left-of (headed h && whole h R) (whole h S) e))

@@ -1,73 +1,59 @@
+-- `commands::carry_out` meets its contract. Assumes nothing.
+use borrow.Author.Tests.{eq-eqb, ne-eqb}
+use Rattle.rights.specs.Command.{carriedOut, isGrant}
 use borrow.Author.Needs.{needs}
 use Rattle.commands.proofs.carry_out.Statement.{statement}
 use Rattle.commands.proofs.carry_out.Tie as tie
-use Rattle.commands.proofs.carry_out.Reads as reads
-use Rattle.commands.proofs.carry_out.Lts as lts
-use Rattle.cuts.proofs.add_record.Reads as add-record-reads
-use Rattle.deletions.proofs.sld.Reads as sld-reads
-use Rattle.deletions.proofs.wgd.Reads as wgd-reads
-use Rattle.deletions.proofs.wld.Reads as wld-reads
-use Rattle.strong.proofs.sgd.Reads as sgd-reads
 
--- src/lib.rt:149:9
 add-record-requires : tie.Need-add-record-requires
 add-record-requires c κs = search needs
 
--- src/lib.rt:149:9
 same-length : tie.Need-same-length
 same-length c = search needs
 
--- src/lib.rt:149:9
 returns : tie.Need-returns
-returns c = ?
+unfolding carriedOut isGrant
+returns c = rw (eq-eqb _ _ (c .before .before .before .before .if1 .taken)) (c .before .before .add-record .ensures)
 
--- src/lib.rt:152:9
 wld-requires : tie.Need-wld-requires
 wld-requires c κs = search needs
 
--- src/lib.rt:152:9
 same-length-2 : tie.Need-same-length-2
 same-length-2 c = search needs
 
--- src/lib.rt:152:9
 returns-2 : tie.Need-returns-2
-returns-2 c = ?
+unfolding carriedOut isGrant
+returns-2 c = rw (ne-eqb _ _ (c .before .before .before .before .before .if1 .left), eq-eqb _ _ (c .before .before .before .before .if2 .taken)) (c .before .before .wld .ensures)
 
--- src/lib.rt:155:9
 wgd-requires : tie.Need-wgd-requires
 wgd-requires c κs = search needs
 
--- src/lib.rt:155:9
 same-length-3 : tie.Need-same-length-3
 same-length-3 c = search needs
 
--- src/lib.rt:155:9
 returns-3 : tie.Need-returns-3
-returns-3 c = ?
+unfolding carriedOut isGrant
+returns-3 c = rw (ne-eqb _ _ (c .before .before .before .before .before .before .if1 .left), ne-eqb _ _ (c .before .before .before .before .before .if2 .left), eq-eqb _ _ (c .before .before .before .before .if3 .taken)) (c .before .before .wgd .ensures)
 
--- src/lib.rt:158:9
 sld-requires : tie.Need-sld-requires
 sld-requires c κs = search needs
 
--- src/lib.rt:158:9
 same-length-4 : tie.Need-same-length-4
 same-length-4 c = search needs
 
--- src/lib.rt:158:9
 returns-4 : tie.Need-returns-4
-returns-4 c = ?
+unfolding carriedOut isGrant
+returns-4 c = rw (ne-eqb _ _ (c .before .before .before .before .before .before .before .if1 .left), ne-eqb _ _ (c .before .before .before .before .before .before .if2 .left), ne-eqb _ _ (c .before .before .before .before .before .if3 .left), eq-eqb _ _ (c .before .before .before .before .if4 .taken)) (c .before .before .sld .ensures)
 
--- src/lib.rt:160:5
 sgd-requires : tie.Need-sgd-requires
 sgd-requires c κs = search needs
 
--- src/lib.rt:142:1
 same-length-5 : tie.Need-same-length-5
 same-length-5 c = search needs
 
--- src/lib.rt:142:1
 returns-5 : tie.Need-returns-5
-returns-5 c = ?
+unfolding carriedOut isGrant
+returns-5 c = rw (ne-eqb _ _ (c .before .before .before .before .before .before .before .if1 .left), ne-eqb _ _ (c .before .before .before .before .before .before .if2 .left), ne-eqb _ _ (c .before .before .before .before .before .if3 .left), ne-eqb _ _ (c .before .before .before .before .if4 .left)) (c .before .before .sgd .ensures)
 
 pub carry-out-spec : {M : Type 1} → statement M
 carry-out-spec =

@@ -38,10 +38,11 @@ loop-less c = search needs
 loop-again : tie.Need-loop-again Inv-loop μ-loop
 loop-again c =
     let a = c .before .before .before .before .before .args in
-    let l : c .before .before .loop .y < 128 = omega arith in
-    ( omega arith
-    , rw (c .before .before .loop .inv .1, c .loser-mark .ensures)
-      (padded-more 0 (markBy (a .header) (a .before .now) (a .before-levels .now) (a .after .now) (a .after-levels .now)) _ l))
+    let l : c .before .before .loop .y < 128 = omega arith in (
+      omega arith,
+      rw (c .before .before .loop .inv .1, c .loser-mark .ensures)
+          (padded-more 0 (markBy (a .header) (a .before .now) (a .before-levels .now) (a .after .now) (a .after-levels .now)) _ l),
+    )
 
 returns : tie.Need-returns Inv-loop μ-loop
 returns c = let e : c .before .loop .y ≡ c .before .before .before .before .args .header .n = omega arith in rw e at (c .before .loop .inv .1)

@@ -34,11 +34,12 @@ loses-one-requires-4 c κs = search needs
 returns-4 : tie.Need-returns-4
 unfolding loses anyPermission decoded
 returns-4 c =
-    rw
-    ( sym (c .before .before .loses-one3 .ensures) ∙ c .before .if3 .left
-    , sym (c .before .before .before .before .loses-one2 .ensures) ∙ c .before .before .before .if2 .left
-    , sym (c .before .before .before .before .before .before .loses-one .ensures) ∙ c .before .before .before .before .before .if1 .left
-    , c .loses-one4 .ensures)
+    rw (
+      sym (c .before .before .loses-one3 .ensures) ∙ c .before .if3 .left,
+      sym (c .before .before .before .before .loses-one2 .ensures) ∙ c .before .before .before .if2 .left,
+      sym (c .before .before .before .before .before .before .loses-one .ensures) ∙ c .before .before .before .before .before .if1 .left,
+      c .loses-one4 .ensures,
+    )
 
 pub loses-spec : {M : Type 1} → statement M
 loses-spec =

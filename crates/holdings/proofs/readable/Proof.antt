@@ -15,10 +15,11 @@ whole-requires-2 c κs = search needs
 
 returns : tie.Need-returns
 returns c =
-    rw
-    ( sym (c .before .before .before .before .headed .ensures) ∙ c .before .before .before .if1 .taken
-    , sym (c .before .before .whole .ensures) ∙ c .before .if2 .taken
-    , c .whole2 .ensures)
+    rw (
+      sym (c .before .before .before .before .headed .ensures) ∙ c .before .before .before .if1 .taken,
+      sym (c .before .before .whole .ensures) ∙ c .before .if2 .taken,
+      c .whole2 .ensures,
+    )
 
 returns-2 : tie.Need-returns-2
 returns-2 c =

@@ -1,0 +1,76 @@
+-- What a refused command answers and leaves, and what one that is carried out does. Assumes nothing.
+use Prim.Native.Nat.{ℕ, _*_, _-_, _≤_}
+use native.Mathlib.Omega.{arith}
+use mathlib.Core.Path.{_≡_, refl, ap, sym, _∙_}
+use mathlib.Core.Bool.{Bool, true, false, _&&_, cond}
+use mathlib.Core.List.{List}
+use lib.ListN.{length, take}
+use lib.Dec.{eqb}
+use borrow.Author.Tests.{eq-eqb, ne-eqb}
+use Rattle.rights.specs.declared.Header.{Header}
+use Rattle.rights.specs.declared.Command.{Command}
+use Rattle.rights.specs.Sound.{headed, whole, sound, firstOf, unless, registerRefusal}
+use Rattle.rights.specs.Tally.{missing}
+use Rattle.rights.specs.Command.{isGrant, grantRefusal, deletionRefusal, formRefusal, refusal, carriedOut, refused, done, outcome}
+use Rattle.theory.proofs.Tests.{both, left-of, right-of}
+use Rattle.theory.proofs.Ready.{Ready, whole-length}
+use Rattle.theory.proofs.Outcome.{none-of, holds-unless, outcome-done, outcome-ready}
+use Rattle.rows.specs.Whole.{ifWhole}
+use Rattle.tally.specs.Missing.{missingIfWhole}
+use Rattle.deletions.specs.Kept.{copyOf}
+use Rattle.deletions.proofs.Local.{Lent, lent}
+use Rattle.commands.specs.declared.Outcome.{Outcome}
+use Rattle.commands.specs.Post.{Answers}
+
+-- a refused command answers its refusal and leaves the register
+pub refused-as :
+    (h : Header) (R : List ℕ) (c : Command) {k : ℕ} → k ≡ refusal h R c → (k ≡ 0 → ⊥) →
+    Answers (outcome h R c) (record { answer = k; removed = 0; added = 0 }) R
+unfolding outcome refused
+refused-as h R c e ne =
+    let applies = ne-eqb (refusal h R c) 0 (λ z. ne (e ∙ z)) in
+    record { answer = rw applies e; removed = rw applies; added = rw applies; cells = rw applies }
+
+-- a command that is not refused finds a register as 01 has it
+ready-of : (h : Header) (R : List ℕ) (c : Command) → refusal h R c ≡ 0 → Ready h R
+unfolding refusal registerRefusal
+ready-of h R c e =
+    let own = cond (isGrant c) (grantRefusal h R c) (deletionRefusal h R c) in
+    let register = none-of (registerRefusal h R) (firstOf (formRefusal h c) own) e .0 in
+    let later = none-of (unless (headed h) 1) (firstOf (unless (whole h R) 2) (unless (sound h R) 3)) register in
+    let last = none-of (unless (whole h R) 2) (unless (sound h R) 3) (later .1) in
+    record {
+      headed = holds-unless (headed h) 0 (later .0);
+      whole = holds-unless (whole h R) 1 (last .0);
+      sound = holds-unless (sound h R) 2 (last .1);
+    }
+
+module _ (h : Header) (R : List ℕ) (c : Command) {k : ℕ} (e : k ≡ refusal h R c) (z : k ≡ 0) where
+  ready : Ready h R
+  ready = ready-of h R c (sym e ∙ z)
+
+  whole-carried : whole h (carriedOut h R c) ≡ true
+  whole-carried = rw (outcome-done h R c (eq-eqb (refusal h R c) 0 (sym e ∙ z))) at (outcome-ready h R ready c .whole)
+
+  -- the copy of the register before can be looked back at
+  pub looked-back : {S copy : List ℕ} → S ≡ ifWhole h R (carriedOut h R c) → copy ≡ copyOf R → Lent h R S copy
+  looked-back s p =
+      lent h R (carriedOut h R c) (both (ready .headed) (ready .whole)) (whole-length h (carriedOut h R c) whole-carried) s p
+
+  -- an accepted command answers 0 and the records removed and added, and leaves the register that its act makes
+  pub done-as :
+      {S copy B : List ℕ} {r : Outcome} → S ≡ ifWhole h R (carriedOut h R c) → copy ≡ copyOf R → B ≡ take (length S) copy →
+      (r .answer ≡ 0) × (r .removed ≡ missingIfWhole h B S) × (r .added ≡ missingIfWhole h S B) →
+      Answers (outcome h R c) r S
+  unfolding outcome done ifWhole missingIfWhole
+  done-as {S} s p b t =
+      let passes = eq-eqb (refusal h R c) 0 (sym e ∙ z) in
+      let before = b ∙ looked-back s p .same in
+      let head = ready .headed in
+      let made : S ≡ carriedOut h R c = s ∙ rw (head, ready .whole) in
+      record {
+        answer = rw passes (t .0);
+        removed = rw passes (t .1 ∙ rw (before, made, head, ready .whole, whole-carried));
+        added = rw passes (t .2 ∙ rw (before, made, head, ready .whole, whole-carried));
+        cells = rw passes made;
+      }

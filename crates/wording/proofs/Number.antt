@@ -60,7 +60,7 @@ pub record GoesOn (v b : ℕ) : Type 0 where
   pub started : 1 ≤ v
   pub small : extended v b ≤ 65535
 
-goes-on : (v b : ℕ) → goesOn v b ≡ true → GoesOn v b
+pub goes-on : (v b : ℕ) → goesOn v b ≡ true → GoesOn v b
 unfolding goesOn isDigit
 goes-on v b e =
     let digit = left-of _ _ (left-of _ _ e) in

@@ -1,0 +1,3 @@
+-- The laws that the proofs of the line readers share.
+pub mod Byte
+pub mod Digits

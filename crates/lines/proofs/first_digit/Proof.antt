@@ -1,0 +1,16 @@
+use native.Mathlib.Omega.{arith}
+use Rattle.lines.proofs.Digits.{is-a-digit}
+use borrow.Author.Needs.{needs}
+use Rattle.lines.proofs.first_digit.Statement.{statement}
+use Rattle.lines.proofs.first_digit.Tie as tie
+use Rattle.lines.proofs.first_digit.Reads as reads
+use Rattle.lines.proofs.first_digit.Lts as lts
+
+sub-result : tie.Need-sub-result
+sub-result c = let d = is-a-digit _ (c .pre) in omega arith
+
+returns : tie.Need-returns
+returns c = search needs
+
+pub first-digit-spec : {M : Type 1} → statement M
+first-digit-spec = tie.close (tie.spec sub-result returns)

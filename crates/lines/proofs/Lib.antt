@@ -1,3 +1,4 @@
 -- The laws that the proofs of the line readers share.
 pub mod Byte
 pub mod Digits
+pub mod Words

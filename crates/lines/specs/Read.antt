@@ -32,6 +32,11 @@ unfoldable pub lineRead : List ℕ → Line → LineRead
 lineRead text (value v rest) = Value v (offset text rest)
 lineRead text bad = Bad
 
+-- the value of one word, or what the words behind it in a list give
+unfoldable pub choiceRead : ℕ → WordRead → LineRead → LineRead
+choiceRead v (Next next) other = Value v next
+choiceRead v Other other = other
+
 -- what stands at the byte `at` as a line of the kind
 unfoldable pub lineAt : List ℕ → ℕ → Kind → LineRead
 lineAt text at k = lineRead text (lineOf k (drop at text))

@@ -6,7 +6,7 @@ ghost use Prim.Native.Nat.{_-_, _≤_};
 ghost use lib.ListN.{length, drop};
 ghost use Rattle.wording.specs.Word.{key as keyOf, acts, perms, form};
 ghost use Rattle.wording.specs.Line.{afterWord, isDigit, goesOn, extended, number as numberIn, chosen, valueOf};
-ghost use Rattle.lines.specs.Read.{kindOf, wordRead, lineRead, lineAt, endAt};
+ghost use Rattle.lines.specs.Read.{kindOf, wordRead, choiceRead, lineRead, lineAt, endAt};
 
 // Where the text goes on behind a word, or that another word stands there.
 pub enum WordRead {
@@ -115,27 +115,27 @@ fn number(text: &[u8], at: usize) -> LineRead
     LineRead::Bad
 }
 
+// The value v if the word stands there, and otherwise what the words behind it in the list give.
+fn choice(text: &[u8], at: usize, bytes: &[u8], v: u16, other: LineRead) -> LineRead
+    requires { ⌜ at ≤ length (now text) ⌝ }
+    ensures { λ r. ⌜ r ≡ choiceRead v (wordRead (now (text .entry)) (afterWord (now (bytes .entry)) (drop at (now (text .entry))))) other ⌝ }
+{
+    let WordRead::Next(next) = word(text, at, bytes) else {
+        return other;
+    };
+    LineRead::Value(v, next)
+}
+
 // One of the words for an act, and LF.
 fn act(text: &[u8], at: usize) -> LineRead
     requires { ⌜ at ≤ length (now text) ⌝ }
     ensures { λ r. ⌜ r ≡ lineRead (now (text .entry)) (chosen acts (drop at (now (text .entry)))) ⌝ }
 {
-    if let WordRead::Next(next) = word(text, at, b"grant\n") {
-        return LineRead::Value(0, next);
-    }
-    if let WordRead::Next(next) = word(text, at, b"wld\n") {
-        return LineRead::Value(1, next);
-    }
-    if let WordRead::Next(next) = word(text, at, b"wgd\n") {
-        return LineRead::Value(2, next);
-    }
-    if let WordRead::Next(next) = word(text, at, b"sld\n") {
-        return LineRead::Value(3, next);
-    }
-    if let WordRead::Next(next) = word(text, at, b"sgd\n") {
-        return LineRead::Value(4, next);
-    }
-    LineRead::Bad
+    let sgd = choice(text, at, b"sgd\n", 4, LineRead::Bad);
+    let sld = choice(text, at, b"sld\n", 3, sgd);
+    let wgd = choice(text, at, b"wgd\n", 2, sld);
+    let wld = choice(text, at, b"wld\n", 1, wgd);
+    choice(text, at, b"grant\n", 0, wld)
 }
 
 // One of the words for a permission, or `none`, and LF.
@@ -143,22 +143,11 @@ fn perm(text: &[u8], at: usize) -> LineRead
     requires { ⌜ at ≤ length (now text) ⌝ }
     ensures { λ r. ⌜ r ≡ lineRead (now (text .entry)) (chosen perms (drop at (now (text .entry)))) ⌝ }
 {
-    if let WordRead::Next(next) = word(text, at, b"TT\n") {
-        return LineRead::Value(8, next);
-    }
-    if let WordRead::Next(next) = word(text, at, b"TF\n") {
-        return LineRead::Value(4, next);
-    }
-    if let WordRead::Next(next) = word(text, at, b"FT\n") {
-        return LineRead::Value(2, next);
-    }
-    if let WordRead::Next(next) = word(text, at, b"FF\n") {
-        return LineRead::Value(1, next);
-    }
-    if let WordRead::Next(next) = word(text, at, b"none\n") {
-        return LineRead::Value(0, next);
-    }
-    LineRead::Bad
+    let none = choice(text, at, b"none\n", 0, LineRead::Bad);
+    let ff = choice(text, at, b"FF\n", 1, none);
+    let ft = choice(text, at, b"FT\n", 2, ff);
+    let tf = choice(text, at, b"TF\n", 4, ft);
+    choice(text, at, b"TT\n", 8, tf)
 }
 
 // The key of the kind, as `by=`.

@@ -1,3 +1,5 @@
+use mathlib.Core.Path.{sym, _∙_}
+use Rattle.lines.proofs.Words.{no-line, word-found, other-key, behind-key}
 use borrow.Author.Needs.{needs}
 use Rattle.lines.proofs.line.Statement.{statement}
 use Rattle.lines.proofs.line.Tie as tie
@@ -6,33 +8,26 @@ use Rattle.lines.proofs.line.Lts as lts
 use Rattle.lines.proofs.key.Reads as key-reads
 use Rattle.lines.proofs.value.Reads as value-reads
 
--- src/lib.rt:197:9
 returns : tie.Need-returns
-returns c = ?
+returns c = no-line _ _ _ (c .if1 .taken)
 
--- src/lib.rt:199:33
 key-requires : tie.Need-key-requires
 key-requires c κs = search needs
 
--- src/lib.rt:199:24
 enum-known-start : tie.Need-enum-known-start
 enum-known-start c = search needs
 
--- src/lib.rt:200:9
 enum-told : tie.Need-enum-told
 enum-told c = search needs
 
--- src/lib.rt:200:9
 returns-2 : tie.Need-returns-2
-returns-2 c = ?
+returns-2 c = other-key _ _ _ (sym (c .enum-told .given .1) ∙ c .before .before .key .ensures)
 
--- src/lib.rt:202:5
 value-requires : tie.Need-value-requires
-value-requires c κs = ?
+value-requires c κs = word-found _ _ _ _ (c .before .before .before .before .if1 .left) (sym (c .before .start .given .1) ∙ c .before .before .before .key .ensures) .within
 
--- src/lib.rt:193:1
 returns-3 : tie.Need-returns-3
-returns-3 c = ?
+returns-3 c = c .value .ensures ∙ behind-key _ _ _ _ (word-found _ _ _ _ (c .before .before .before .before .before .if1 .left) (sym (c .before .before .start .given .1) ∙ c .before .before .before .before .key .ensures))
 
 pub line-spec : {M : Type 1} → statement M
 line-spec =

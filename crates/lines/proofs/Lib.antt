@@ -2,3 +2,4 @@
 pub mod Byte
 pub mod Digits
 pub mod Words
+pub mod Found

@@ -1,0 +1,2 @@
+-- The laws that the proofs of the reader of records share.
+pub mod Step

@@ -1,2 +1,4 @@
 -- The laws that the proofs of the reader of records share.
 pub mod Step
+pub mod SoFar
+pub mod Room

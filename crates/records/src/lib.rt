@@ -7,13 +7,13 @@ use rights::Office;
 ghost use mathlib.Core.Path.{_≡_};
 ghost use mathlib.Core.Bool.{_||_};
 ghost use Prim.Native.Nat.{_≤_};
-ghost use lib.ListN.{length, drop};
+ghost use lib.ListN.{length, drop, replicate};
 ghost use Rattle.wording.specs.Word.{byLine, toLine, permLine};
 ghost use Rattle.wording.specs.Line.{lineOf};
-ghost use Rattle.wording.specs.Records.{byMay, toMay, permMay, withPerm, withTo};
+ghost use Rattle.wording.specs.Records.{first, byMay, toMay, permMay, withPerm, withTo};
 ghost use Rattle.wording.specs.RegisterReader.{outside, forbidden};
 ghost use Rattle.records.specs.Read.{textRecord, recordRead, recordAt};
-ghost use Rattle.records.specs.Stored.{storedOne, foundAt, foundIs};
+ghost use Rattle.records.specs.Stored.{placeOf, roomFor, storedOne, foundAt, foundIs, recordsAt, RecordsTold};
 
 // One record, as it was read: nothing of it is known to be in range.
 pub struct Record {
@@ -140,18 +140,102 @@ fn or_forbidden(before: bool, header: Header, told: Record) -> bool
     told.to.0 == header.soa.0
 }
 
-// The record added to the cells, where it has a cell.
+// The byte of the record's cell.
+fn place(header: Header, told: Record) -> usize
+    ensures { λ r. ⌜ r ≡ placeOf header (textRecord told) ⌝ }
+{
+    told.by.0 as usize * header.n as usize + told.to.0 as usize
+}
+
+// Whether the record has a cell, and a buffer of this size has room for it.
+fn has_cell(size: usize, header: Header, told: Record) -> bool
+    ensures { λ r. ⌜ r ≡ roomFor header size (textRecord told) ⌝ }
+{
+    if header.n <= told.by.0 {
+        return false;
+    }
+    if header.n <= told.to.0 {
+        return false;
+    }
+    place(header, told) < size
+}
+
+// The record added to the cells, where it has one.
 fn store(cells: &mut [u8], header: Header, told: Record)
     ensures { λ r. ⌜ now (cells .exit) ≡ storedOne header (now (cells .entry)) (textRecord told) ⌝ }
 {
-    if header.n <= told.by.0 {
-        return;
-    }
-    if header.n <= told.to.0 {
-        return;
-    }
-    let at = told.by.0 as usize * header.n as usize + told.to.0 as usize;
-    if at < cells.len() {
+    if has_cell(cells.len(), header, told) {
+        let at = place(header, told);
         cells[at] = cells::union(cells[at], told.perm);
     }
+}
+
+// Zero in every byte.
+pub fn clear(cells: &mut [u8])
+    ensures { λ r. ⌜ now (cells .exit) ≡ replicate (length (now (cells .entry))) 0 ⌝ }
+{
+    let mut k = 0;
+    while k < cells.len() {
+        cells[k] = 0;
+        k += 1;
+    }
+}
+
+// What stands in for the record before the first one: every record comes after it.
+fn before_all() -> Record
+    ensures { λ r. ⌜ textRecord r ≡ first ⌝ }
+{
+    Record {
+        by: Office(0),
+        to: Office(0),
+        perm: 16,
+    }
+}
+
+// The records up to the end line, each added to the cells.
+fn scan(text: &[u8], start: usize, header: Header, cells: &mut [u8]) -> RecordsRead
+    requires { ⌜ start ≤ length (now text) ⌝ }
+    ensures { λ r. ⌜ foundIs r (now (cells .exit)) ≡ foundAt (now (text .entry)) start header (now (cells .entry)) ⌝ }
+{
+    let mut at = start;
+    let mut last = before_all();
+    let mut outside = false;
+    let mut forbidden = false;
+    loop {
+        if let WordRead::Next(next) = lines::end_line(text, at) {
+            return RecordsRead::End {
+                outside: outside,
+                forbidden: forbidden,
+                next: next,
+            };
+        }
+        match read_record(text, at, last) {
+            RecordRead::BadAt(line) => {
+                return RecordsRead::BadAt(line);
+            }
+            RecordRead::Got(told, next) => {
+                store(cells, header, told);
+                outside = or_outside(outside, header, told);
+                forbidden = or_forbidden(forbidden, header, told);
+                last = told;
+                at = next;
+            }
+        }
+    }
+}
+
+// The records of the text from the byte `start` on, up to the end line, and the buffer with these records alone. A record that
+// has no cell is left out: the reader of the register refuses it. A bad line leaves the buffer zero.
+pub fn read_records(text: &[u8], start: usize, header: Header, cells: &mut [u8]) -> RecordsRead
+    ensures { λ r. ⌜ RecordsTold (recordsAt (now (text .entry)) start header (length (now (cells .entry)))) (length (now (cells .entry))) r (now (cells .exit)) ⌝ }
+{
+    clear(cells);
+    if text.len() < start {
+        return RecordsRead::BadAt(text.len());
+    }
+    let read = scan(text, start, header, cells);
+    if let RecordsRead::BadAt(_) = read {
+        clear(cells);
+    }
+    read
 }

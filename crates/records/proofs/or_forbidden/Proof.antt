@@ -1,20 +1,24 @@
+use mathlib.Core.Path.{refl}
+use borrow.Author.Tests.{eq-eqb, ne-eqb}
+use Rattle.rights.specs.Sound.{barred}
+use Rattle.wording.specs.RegisterReader.{forbidden}
+use Rattle.records.specs.Read.{textRecord}
 use borrow.Author.Needs.{needs}
 use Rattle.records.proofs.or_forbidden.Statement.{statement}
 use Rattle.records.proofs.or_forbidden.Tie as tie
 use Rattle.records.proofs.or_forbidden.Reads as reads
 use Rattle.records.proofs.or_forbidden.Lts as lts
 
--- src/lib.rt:135:9
 returns : tie.Need-returns
 returns c = search needs
 
--- src/lib.rt:138:9
 returns-2 : tie.Need-returns-2
-returns-2 c = ?
+unfolding forbidden barred textRecord
+returns-2 c = rw (c .before .before .if1 .left, eq-eqb _ _ (c .if2 .taken)) refl
 
--- src/lib.rt:131:1
 returns-3 : tie.Need-returns-3
-returns-3 c = ?
+unfolding forbidden barred textRecord
+returns-3 c = rw (c .before .before .before .before .if1 .left, ne-eqb _ _ (c .before .before .if2 .left)) refl
 
 pub or-forbidden-spec : {M : Type 1} → statement M
 or-forbidden-spec = tie.close (tie.spec returns returns-2 returns-3)

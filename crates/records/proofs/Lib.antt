@@ -2,3 +2,4 @@
 pub mod Step
 pub mod SoFar
 pub mod Room
+pub mod Told

@@ -1,3 +1,5 @@
+use native.Mathlib.Omega.{arith}
+use Rattle.records.proofs.Told.{told-past, told-end, told-bad}
 use borrow.Author.Needs.{needs}
 use Rattle.records.proofs.read_records.Statement.{statement}
 use Rattle.records.proofs.read_records.Tie as tie
@@ -6,48 +8,38 @@ use Rattle.records.proofs.read_records.Lts as lts
 use Rattle.records.proofs.clear.Reads as clear-reads
 use Rattle.records.proofs.scan.Reads as scan-reads
 
--- src/lib.rt:232:5
 clear-requires : tie.Need-clear-requires
 clear-requires c κs = search needs
 
--- src/lib.rt:234:9
 same-length : tie.Need-same-length
 same-length c = search needs
 
--- src/lib.rt:234:9
 returns : tie.Need-returns
-returns c = ?
+returns c = told-past _ _ _ _ (c .if1 .taken) (c .before .before .before .clear .ensures)
 
--- src/lib.rt:236:9
 scan-requires : tie.Need-scan-requires
 scan-requires c κs = search needs
 
--- src/lib.rt:238:15
 enum-told : tie.Need-enum-told
 enum-told c = search needs
 
--- src/lib.rt:238:9
 clear-requires-2 : tie.Need-clear-requires-2
 clear-requires-2 c κs = search needs
 
 enum-told-2 : tie.Need-enum-told-2
 enum-told-2 c = search needs
 
--- src/lib.rt:229:1
 same-length-2 : tie.Need-same-length-2
 same-length-2 c = search needs
 
--- src/lib.rt:229:1
 returns-2 : tie.Need-returns-2
-returns-2 c = ?
+returns-2 c = told-bad _ _ _ _ _ _ _ (c .before .before .before .before .before .before .before .before .before .before .before .before .before .clear .ensures) (c .before .before .before .before .before .before .before .before .scan .ensures) (c .before .before .before .before .enum-told .given .1) (c .before .before .clear2 .ensures) (omega arith)
 
--- src/lib.rt:229:1
 same-length-3 : tie.Need-same-length-3
 same-length-3 c = search needs
 
--- src/lib.rt:229:1
 returns-3 : tie.Need-returns-3
-returns-3 c = ?
+returns-3 c = told-end _ _ _ _ _ _ _ (c .before .before .before .before .before .before .before .before .before .clear .ensures) (c .before .before .before .before .scan .ensures) (c .enum-told2 .given .1)
 
 pub read-records-spec : {M : Type 1} → statement M
 read-records-spec =

@@ -3,3 +3,4 @@ pub mod Step
 pub mod SoFar
 pub mod Room
 pub mod Told
+pub mod Granted

@@ -1,0 +1,146 @@
+// The readers of a register and of a command. Each gives what it read by value, and the rest of the caller's own text beside it.
+use lines::LineKind;
+use lines::LineRead;
+use records::RecordsRead;
+use rights::Command;
+use rights::Header;
+use rights::Layer;
+use rights::Office;
+ghost use mathlib.Core.Path.{_≡_};
+ghost use Prim.Native.Nat.{_+_, _≤_};
+ghost use lib.ListN.{length, drop};
+ghost use Rattle.wording.specs.RegisterReader.{registerRead};
+ghost use Rattle.wording.specs.CommandReader.{commandRead};
+ghost use Rattle.readers.specs.Told.{headerIn, commandTold, commandRefused, registerNot, refusalOf, RegisterTold, behindHeaderAt};
+
+// What the command reader gives: 0 or 13, where the bad line starts, the command, and where the rest starts.
+pub struct CommandRead {
+    pub answer: u8,
+    pub at: usize,
+    pub command: Command,
+    pub next: usize,
+}
+
+// What the register reader gives: 0 or the refusal, where the bad line starts, the header, and where the rest starts.
+pub struct RegisterRead {
+    pub answer: u8,
+    pub at: usize,
+    pub header: Header,
+    pub next: usize,
+}
+
+// The header and where the records start, or where the bad line starts.
+pub enum HeaderRead {
+    Got(Header, usize),
+    BadAt(usize),
+}
+
+// No command: a line is bad.
+fn no_command(at: usize, end: usize) -> CommandRead
+    ensures { λ r. ⌜ r ≡ commandRefused at end ⌝ }
+{
+    CommandRead {
+        answer: 13,
+        at: at,
+        command: Command {
+            act: 0,
+            layer: Layer(0),
+            by: Office(0),
+            to: Office(0),
+            perm: 0,
+        },
+        next: end,
+    }
+}
+
+// The five lines of a command.
+pub fn read_command(text: &[u8]) -> CommandRead
+    ensures { λ r. ⌜ r ≡ commandTold (now (text .entry)) ⌝ }
+{
+    let LineRead::Value(act, layer_at) = lines::line(text, 0, LineKind::Act) else {
+        return no_command(0, text.len());
+    };
+    let LineRead::Value(layer, by_at) = lines::line(text, layer_at, LineKind::Layer) else {
+        return no_command(layer_at, text.len());
+    };
+    let LineRead::Value(by, to_at) = lines::line(text, by_at, LineKind::By) else {
+        return no_command(by_at, text.len());
+    };
+    let LineRead::Value(to, perm_at) = lines::line(text, to_at, LineKind::To) else {
+        return no_command(to_at, text.len());
+    };
+    let LineRead::Value(perm, next) = lines::line(text, perm_at, LineKind::Perm) else {
+        return no_command(perm_at, text.len());
+    };
+    CommandRead {
+        answer: 0,
+        at: 0,
+        command: Command {
+            act: act as u8,
+            layer: Layer(layer),
+            by: Office(by),
+            to: Office(to),
+            perm: perm as u8,
+        },
+        next: next,
+    }
+}
+
+// The three lines of a header.
+fn read_header(text: &[u8]) -> HeaderRead
+    ensures { λ r. ⌜ r ≡ headerIn (now (text .entry)) ⌝ }
+{
+    let LineRead::Value(n, soa_at) = lines::line(text, 0, LineKind::N) else {
+        return HeaderRead::BadAt(0);
+    };
+    let LineRead::Value(soa, layer_at) = lines::line(text, soa_at, LineKind::Soa) else {
+        return HeaderRead::BadAt(soa_at);
+    };
+    let LineRead::Value(layer, next) = lines::line(text, layer_at, LineKind::Layer) else {
+        return HeaderRead::BadAt(layer_at);
+    };
+    HeaderRead::Got(
+        Header {
+            n: n,
+            soa: Office(soa),
+            layer: Layer(layer),
+        },
+        next,
+    )
+}
+
+// No register: a number of refusal, and where the bad line starts.
+fn no_register(number: u8, at: usize, end: usize) -> RegisterRead
+    ensures { λ r. ⌜ r ≡ registerNot number at end ⌝ }
+{
+    RegisterRead {
+        answer: number,
+        at: at,
+        header: Header {
+            n: 0,
+            soa: Office(0),
+            layer: Layer(0),
+        },
+        next: end,
+    }
+}
+
+// Refusals 1, 2, 6, 7 and 3, in this order, of a buffer with the records added and what was found of them; 0 is none.
+fn refusal(cells: &[u8], header: Header, outside: bool, forbidden: bool) -> u8
+    ensures { λ r. ⌜ r ≡ refusalOf header (now (cells .entry)) outside forbidden ⌝ }
+{
+    if !cells::headed(header) {
+        return 1;
+    }
+    let size = header.n as usize * header.n as usize;
+    if cells.len() < size {
+        return 2;
+    }
+    if outside {
+        return 6;
+    }
+    if forbidden {
+        return 7;
+    }
+    sound::register_refusal(&cells[0..size], header)
+}

@@ -1,1 +1,3 @@
 -- The laws that the proofs of the readers share.
+pub mod SoFar
+pub mod Checks

@@ -144,3 +144,43 @@ fn refusal(cells: &[u8], header: Header, outside: bool, forbidden: bool) -> u8
     }
     sound::register_refusal(&cells[0..size], header)
 }
+
+// The records behind a header, the checks of them, and the end.
+fn behind_header(text: &[u8], at: usize, header: Header, cells: &mut [u8]) -> RegisterRead
+    requires { ⌜ at ≤ length (now text) ⌝ }
+    ensures { λ r. ⌜ RegisterTold (behindHeaderAt (now (text .entry)) (now (cells .entry)) header at) r (now (cells .exit)) ⌝ }
+{
+    match records::read_records(text, at, header, cells) {
+        RecordsRead::BadAt(line) => no_register(13, line, text.len()),
+        RecordsRead::End {
+            outside,
+            forbidden,
+            next,
+        } => {
+            let number = refusal(cells, header, outside, forbidden);
+            if number == 0 {
+                return RegisterRead {
+                    answer: 0,
+                    at: 0,
+                    header: header,
+                    next: next,
+                };
+            }
+            records::clear(cells);
+            no_register(number, 0, text.len())
+        }
+    }
+}
+
+// The register, its bytes in the lent buffer and zero behind them; refused, the whole buffer zero.
+pub fn read_register(text: &[u8], cells: &mut [u8]) -> RegisterRead
+    ensures { λ r. ⌜ RegisterTold (registerRead (now (text .entry)) (now (cells .entry))) r (now (cells .exit)) ⌝ }
+{
+    match read_header(text) {
+        HeaderRead::BadAt(line) => {
+            records::clear(cells);
+            no_register(13, line, text.len())
+        }
+        HeaderRead::Got(header, next) => behind_header(text, next, header, cells),
+    }
+}

@@ -1,3 +1,10 @@
+use mathlib.Core.Path.{sym, _∙_}
+use mathlib.Core.List.{[], _∷_}
+use native.Mathlib.Omega.{arith}
+use Rattle.wording.specs.Word.{soaLine, layerLine}
+use Rattle.wording.specs.Lines.{headerLines, headerOf}
+use Rattle.lines.specs.Read.{kindOf}
+use Rattle.readers.proofs.SoFar.{LinesSoFar, header-start, lines-more, header-bad, header-got}
 use borrow.Author.Needs.{needs}
 use Rattle.readers.proofs.read_header.Statement.{statement}
 use Rattle.readers.proofs.read_header.Tie as tie
@@ -5,57 +12,60 @@ use Rattle.readers.proofs.read_header.Reads as reads
 use Rattle.readers.proofs.read_header.Lts as lts
 use Rattle.lines.proofs.line.Reads as line-reads
 
--- src/lib.rt:93:38
+n-read : (c : tie.After-known-told) → LinesSoFar (c .before .before .before .before .before .args .text .now) headerLines (soaLine ∷ layerLine ∷ []) (c .before .n .given .0 .0 ∷ []) (c .before .n .given .0 .1 .0)
+unfolding kindOf
+n-read c = lines-more (header-start _) (sym (c .before .before .before .line .ensures) ∙ c .before .n .given .1)
+
+soa-read : (c : tie.After-known-told2) → LinesSoFar (c .before .before .before .before .before .before .before .before .before .args .text .now) headerLines (layerLine ∷ []) (c .before .before .before .before .before .n .given .0 .0 ∷ c .before .soa .given .0 .0 ∷ []) (c .before .soa .given .0 .1 .0)
+unfolding kindOf
+soa-read c = lines-more (n-read (c .before .before .before .before)) (sym (c .before .before .before .line2 .ensures) ∙ c .before .soa .given .1)
+
+layer-read : (c : tie.After-known-told3) → LinesSoFar (c .before .before .before .before .before .before .before .before .before .before .before .before .before .args .text .now) headerLines ([]) (c .before .before .before .before .before .before .before .before .before .n .given .0 .0 ∷ c .before .before .before .before .before .soa .given .0 .0 ∷ c .before .layer .given .0 .0 ∷ []) (c .before .layer .given .0 .1 .0)
+unfolding kindOf
+layer-read c = lines-more (soa-read (c .before .before .before .before)) (sym (c .before .before .before .line3 .ensures) ∙ c .before .layer .given .1)
+
 line-requires : tie.Need-line-requires
 line-requires c κs = search needs
 
--- src/lib.rt:93:25
 enum-known-n : tie.Need-enum-known-n
 enum-known-n c = search needs
 
--- src/lib.rt:94:9
 enum-told : tie.Need-enum-told
 enum-told c = search needs
 
--- src/lib.rt:94:9
 returns : tie.Need-returns
-returns c = ?
+unfolding kindOf
+returns c = header-bad (header-start _) (sym (c .before .before .line .ensures) ∙ c .enum-told .given .1)
 
--- src/lib.rt:96:42
 line-requires-2 : tie.Need-line-requires-2
 line-requires-2 c κs = search needs
 
--- src/lib.rt:96:25
 enum-known-soa : tie.Need-enum-known-soa
 enum-known-soa c = search needs
 
--- src/lib.rt:97:9
 enum-told-2 : tie.Need-enum-told-2
 enum-told-2 c = search needs
 
--- src/lib.rt:97:9
 returns-2 : tie.Need-returns-2
-returns-2 c = ?
+unfolding kindOf
+returns-2 c = header-bad (n-read (c .before .before .before)) (sym (c .before .before .line2 .ensures) ∙ c .enum-told2 .given .1)
 
--- src/lib.rt:99:40
 line-requires-3 : tie.Need-line-requires-3
 line-requires-3 c κs = search needs
 
--- src/lib.rt:99:25
 enum-known-layer : tie.Need-enum-known-layer
 enum-known-layer c = search needs
 
--- src/lib.rt:100:9
 enum-told-3 : tie.Need-enum-told-3
 enum-told-3 c = search needs
 
--- src/lib.rt:100:9
 returns-3 : tie.Need-returns-3
-returns-3 c = ?
+unfolding kindOf
+returns-3 c = header-bad (soa-read (c .before .before .before)) (sym (c .before .before .line3 .ensures) ∙ c .enum-told3 .given .1)
 
--- src/lib.rt:90:1
 returns-4 : tie.Need-returns-4
-returns-4 c = ?
+unfolding headerOf
+returns-4 c = header-got (layer-read c)
 
 pub read-header-spec : {M : Type 1} → statement M
 read-header-spec =

@@ -1,3 +1,11 @@
+use Prim.Native.Nat.{ℕ, _*_, _-_}
+use lib.ListN.{take}
+use Rattle.rights.specs.Sound.{registerRefusal}
+use mathlib.Core.Path.{_≡_, sym, ap, _∙_}
+use native.Mathlib.Omega.{arith}
+use borrow.Author.Tests.{not-true, not-false}
+use Rattle.cells.proofs.Place.{product}
+use Rattle.readers.proofs.Checks.{refuses-1, refuses-2, refuses-6, refuses-7, refuses-3}
 use borrow.Author.Needs.{needs}
 use Rattle.readers.proofs.refusal.Statement.{statement}
 use Rattle.readers.proofs.refusal.Tie as tie
@@ -6,57 +14,49 @@ use Rattle.readers.proofs.refusal.Lts as lts
 use Rattle.cells.proofs.headed.Reads as headed-reads
 use Rattle.sound.proofs.register_refusal.Reads as register-refusal-reads
 
--- src/lib.rt:132:9
 headed-requires : tie.Need-headed-requires
 headed-requires c κs = search needs
 
--- src/lib.rt:133:9
 returns : tie.Need-returns
-returns c = ?
+returns c = refuses-1 _ _ _ _ (sym (c .before .headed .ensures) ∙ not-true _ (c .if1 .taken))
 
--- src/lib.rt:135:16
 cast-size : tie.Need-cast-size
 cast-size c = search needs
 
--- src/lib.rt:135:36
 cast-size-2 : tie.Need-cast-size-2
 cast-size-2 c = search needs
 
--- src/lib.rt:135:16
 mul-size : tie.Need-mul-size
-mul-size c = ?
+mul-size c = let a = c .before .before .before .before .before .args in omega (arith, product (a .header .n) (a .header .n) (omega arith) (omega arith))
 
--- src/lib.rt:137:9
 returns-2 : tie.Need-returns-2
-returns-2 c = ?
+returns-2 c = refuses-2 _ _ _ _ (sym (c .before .before .before .before .headed .ensures) ∙ not-false _ (c .before .before .before .if1 .left)) (c .if2 .taken)
 
--- src/lib.rt:140:9
 returns-3 : tie.Need-returns-3
-returns-3 c = ?
+returns-3 c = refuses-6 _ _ _ _ (sym (c .before .before .before .before .before .headed .ensures) ∙ not-false _ (c .before .before .before .before .if1 .left)) (c .before .if2 .left) (c .if3 .taken)
 
--- src/lib.rt:143:9
 returns-4 : tie.Need-returns-4
-returns-4 c = ?
+returns-4 c = refuses-7 _ _ _ _ (sym (c .before .before .before .before .before .before .headed .ensures) ∙ not-false _ (c .before .before .before .before .before .if1 .left)) (c .before .before .if2 .left) (c .before .if3 .left) (c .if4 .taken)
 
--- src/lib.rt:145:29
 sub-register-refusal : tie.Need-sub-register-refusal
 sub-register-refusal c = search needs
 
--- src/lib.rt:145:29
 part-register-refusal-start : tie.Need-part-register-refusal-start
 part-register-refusal-start c = search needs
 
--- src/lib.rt:145:29
 part-register-refusal-end : tie.Need-part-register-refusal-end
 part-register-refusal-end c = search needs
 
--- src/lib.rt:145:5
 register-refusal-requires : tie.Need-register-refusal-requires
 register-refusal-requires c κs = search needs
 
--- src/lib.rt:129:1
 returns-5 : tie.Need-returns-5
-returns-5 c = ?
+returns-5 c =
+    let a = c .before .before .before .before .before .before .before .before .before .before .args in
+    let whole : a .header .n * a .header .n - 0 ≡ a .header .n * a .header .n = omega arith in
+    c .register-refusal .ensures
+    ∙ ap (λ (k : ℕ). registerRefusal (a .header) (take k (a .cells .now))) whole
+    ∙ refuses-3 _ _ _ _ (sym (c .before .before .before .before .before .before .before .before .headed .ensures) ∙ not-false _ (c .before .before .before .before .before .before .before .if1 .left)) (c .before .before .before .before .if2 .left) (c .before .before .before .if3 .left) (c .before .before .if4 .left)
 
 pub refusal-spec : {M : Type 1} → statement M
 refusal-spec =

@@ -1,3 +1,4 @@
 -- The laws that the proofs of the readers share.
 pub mod SoFar
 pub mod Checks
+pub mod Judged

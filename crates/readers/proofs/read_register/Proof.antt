@@ -1,3 +1,5 @@
+use mathlib.Core.Path.{sym, _∙_}
+use Rattle.readers.proofs.Judged.{header-found, header-missing}
 use borrow.Author.Needs.{needs}
 use Rattle.readers.proofs.read_register.Statement.{statement}
 use Rattle.readers.proofs.read_register.Tie as tie
@@ -8,45 +10,35 @@ use Rattle.readers.proofs.no_register.Reads as no-register-reads
 use Rattle.readers.proofs.read_header.Reads as read-header-reads
 use Rattle.records.proofs.clear.Reads as clear-reads
 
--- src/lib.rt:179:11
 read-header-requires : tie.Need-read-header-requires
 read-header-requires c κs = search needs
 
--- src/lib.rt:180:27
 enum-known-line : tie.Need-enum-known-line
 enum-known-line c = search needs
 
--- src/lib.rt:181:13
 clear-requires : tie.Need-clear-requires
 clear-requires c κs = search needs
 
--- src/lib.rt:182:13
 no-register-requires : tie.Need-no-register-requires
 no-register-requires c κs = search needs
 
--- src/lib.rt:184:25
 enum-known-header : tie.Need-enum-known-header
 enum-known-header c = search needs
 
--- src/lib.rt:184:42
 behind-header-requires : tie.Need-behind-header-requires
-behind-header-requires c κs = ?
+behind-header-requires c κs = header-found _ (c .before .before .before .before .before .before .before .args .cells .now) (sym (c .before .before .before .before .read-header .ensures) ∙ c .before .before .header .given .1) .within
 
--- src/lib.rt:176:1
 same-length : tie.Need-same-length
 same-length c = search needs
 
--- src/lib.rt:176:1
 returns : tie.Need-returns
-returns c = ?
+returns c = header-missing _ _ (sym (c .before .before .before .before .before .before .before .before .read-header .ensures) ∙ c .before .before .before .before .before .before .line .given .1) (c .before .before .before .clear .ensures) (c .no-register .ensures)
 
--- src/lib.rt:176:1
 same-length-2 : tie.Need-same-length-2
 same-length-2 c = search needs
 
--- src/lib.rt:176:1
 returns-2 : tie.Need-returns-2
-returns-2 c = ?
+returns-2 c = rw (header-found _ (c .before .before .before .before .before .before .before .before .before .before .args .cells .now) (sym (c .before .before .before .before .before .before .before .read-header .ensures) ∙ c .before .before .before .before .before .header .given .1) .behind) (c .before .before .behind-header .ensures)
 
 pub read-register-spec : {M : Type 1} → statement M
 read-register-spec =

@@ -2,3 +2,4 @@
 pub mod SoFar
 pub mod Checks
 pub mod Judged
+pub mod Rest

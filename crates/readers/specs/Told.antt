@@ -1,5 +1,5 @@
 -- What the readers answer and leave: each answer by the one outcome that the definitions of the text give.
-use Prim.Native.Nat.{ℕ, _*_}
+use Prim.Native.Nat.{ℕ, _+_, _*_, min}
 use mathlib.Core.Path.{_≡_}
 use mathlib.Core.Bool.{Bool, not, cond}
 use mathlib.Core.List.{List}
@@ -60,3 +60,21 @@ refusalOf h cells out barred =
 -- the outcome behind a header, with the records from the byte `at` on
 unfoldable pub behindHeaderAt : List ℕ → List ℕ → Header → ℕ → Outcome
 behindHeaderAt text buffer h at = judged text buffer (withHeader h (recordsFrom (length (drop at text)) first (drop at text)))
+
+-- the rest is the caller's own text from the byte `next` on, and the empty part at its end where the text is shorter
+pub record RestTold (start : ℕ × ℕ) (text : List ℕ) (next : ℕ) (there : ℕ × ℕ) (rest : List ℕ) : Type 0 where
+  pub bytes : rest ≡ drop next text
+  pub same-text : there .0 ≡ start .0
+  pub place : there .1 ≡ start .1 + min next (length text)
+
+-- the rest of an outcome, in the caller's own text, and the buffer
+pub record RegisterRest (start : ℕ × ℕ) (o : Outcome) (there : ℕ × ℕ) (rest cells : List ℕ) : Type 0 where
+  pub bytes : rest ≡ o .rest
+  pub same-text : there .0 ≡ start .0
+  pub place : there .1 ≡ start .1 + o .next
+  pub buffer : cells ≡ o .buffer
+
+pub record CommandRest (start : ℕ × ℕ) (o : CommandOutcome) (there : ℕ × ℕ) (rest : List ℕ) : Type 0 where
+  pub bytes : rest ≡ o .rest
+  pub same-text : there .0 ≡ start .0
+  pub place : there .1 ≡ start .1 + o .next

@@ -11,7 +11,7 @@ ghost use Prim.Native.Nat.{_+_, _≤_};
 ghost use lib.ListN.{length, drop};
 ghost use Rattle.wording.specs.RegisterReader.{registerRead};
 ghost use Rattle.wording.specs.CommandReader.{commandRead};
-ghost use Rattle.readers.specs.Told.{headerIn, commandTold, commandRefused, registerNot, refusalOf, RegisterTold, behindHeaderAt};
+ghost use Rattle.readers.specs.Told.{headerIn, commandTold, commandRefused, registerNot, refusalOf, RegisterTold, behindHeaderAt, RestTold, RegisterRest, CommandRest};
 
 // What the command reader gives: 0 or 13, where the bad line starts, the command, and where the rest starts.
 pub struct CommandRead {
@@ -183,4 +183,45 @@ pub fn read_register(text: &[u8], cells: &mut [u8]) -> RegisterRead
         }
         HeaderRead::Got(header, next) => behind_header(text, next, header, cells),
     }
+}
+
+// The caller's own text from a byte on; its empty end where the text is shorter.
+fn rest_from<'a>(text: &'a [u8], next: usize) -> &'a [u8]
+    ensures { λ r. ⌜ RestTold (text .entry .ptr) (now (text .entry)) next (r .ptr) (now r) ⌝ }
+{
+    if next <= text.len() {
+        return &text[next..];
+    }
+    let end = text.len();
+    &text[end..]
+}
+
+// The rest of the caller's text behind a register, and the empty part at its end where the reader refused.
+pub fn register_rest<'a>(text: &'a [u8], read: RegisterRead) -> &'a [u8]
+    ensures { λ r. ⌜ RestTold (text .entry .ptr) (now (text .entry)) (read .next) (r .ptr) (now r) ⌝ }
+{
+    rest_from(text, read.next)
+}
+
+// The rest of the caller's text behind a command, and the empty part at its end where the reader refused.
+pub fn command_rest<'a>(text: &'a [u8], read: CommandRead) -> &'a [u8]
+    ensures { λ r. ⌜ RestTold (text .entry .ptr) (now (text .entry)) (read .next) (r .ptr) (now r) ⌝ }
+{
+    rest_from(text, read.next)
+}
+
+// A register read into the buffer: the unread part of the caller's text, where the commands follow.
+pub fn after_register<'a>(text: &'a [u8], cells: &mut [u8]) -> &'a [u8]
+    ensures { λ r. ⌜ RegisterRest (text .entry .ptr) (registerRead (now (text .entry)) (now (cells .entry))) (r .ptr) (now r) (now (cells .exit)) ⌝ }
+{
+    let read = read_register(text, cells);
+    register_rest(text, read)
+}
+
+// A command: the unread part of the caller's text behind it, where the next command follows.
+pub fn after_command<'a>(text: &'a [u8]) -> &'a [u8]
+    ensures { λ r. ⌜ CommandRest (text .entry .ptr) (commandRead (now (text .entry))) (r .ptr) (now r) ⌝ }
+{
+    let read = read_command(text);
+    command_rest(text, read)
 }

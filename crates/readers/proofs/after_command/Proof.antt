@@ -1,0 +1,20 @@
+use Rattle.readers.proofs.Rest.{command-rest-told}
+use borrow.Author.Needs.{needs}
+use Rattle.readers.proofs.after_command.Statement.{statement}
+use Rattle.readers.proofs.after_command.Tie as tie
+use Rattle.readers.proofs.after_command.Reads as reads
+use Rattle.readers.proofs.after_command.Lts as lts
+use Rattle.readers.proofs.command_rest.Reads as command-rest-reads
+use Rattle.readers.proofs.read_command.Reads as read-command-reads
+
+read-command-requires : tie.Need-read-command-requires
+read-command-requires c κs = search needs
+
+command-rest-requires : tie.Need-command-rest-requires
+command-rest-requires c κs = search needs
+
+returns : tie.Need-returns
+returns c = command-rest-told _ (c .before .read-command .ensures) (c .command-rest .ensures)
+
+pub after-command-spec : {M : Type 1} → statement M
+after-command-spec = tie.close (tie.spec read-command-requires command-rest-requires returns)

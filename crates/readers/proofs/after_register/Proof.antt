@@ -1,0 +1,24 @@
+use Rattle.readers.proofs.Rest.{register-rest-told}
+use borrow.Author.Needs.{needs}
+use Rattle.readers.proofs.after_register.Statement.{statement}
+use Rattle.readers.proofs.after_register.Tie as tie
+use Rattle.readers.proofs.after_register.Reads as reads
+use Rattle.readers.proofs.after_register.Lts as lts
+use Rattle.readers.proofs.read_register.Reads as read-register-reads
+use Rattle.readers.proofs.register_rest.Reads as register-rest-reads
+
+read-register-requires : tie.Need-read-register-requires
+read-register-requires c κs = search needs
+
+register-rest-requires : tie.Need-register-rest-requires
+register-rest-requires c κs = search needs
+
+same-length : tie.Need-same-length
+same-length c = search needs
+
+returns : tie.Need-returns
+returns c = register-rest-told _ _ (c .before .before .before .read-register .ensures) (c .register-rest .ensures)
+
+pub after-register-spec : {M : Type 1} → statement M
+after-register-spec =
+    tie.close (tie.spec read-register-requires register-rest-requires same-length returns)

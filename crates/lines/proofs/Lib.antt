@@ -3,3 +3,4 @@ pub mod Byte
 pub mod Digits
 pub mod Words
 pub mod Found
+pub mod Unique

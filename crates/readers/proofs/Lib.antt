@@ -3,3 +3,4 @@ pub mod SoFar
 pub mod Checks
 pub mod Judged
 pub mod Rest
+pub mod Unique

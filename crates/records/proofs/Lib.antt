@@ -4,3 +4,4 @@ pub mod SoFar
 pub mod Room
 pub mod Told
 pub mod Granted
+pub mod Unique

@@ -1,6 +1,6 @@
 -- Reading on by one byte, at a place in the text. Assumes nothing.
 use Prim.Native.Nat.{ℕ, _+_, _-_, _≤_, _<_}
-use mathlib.Core.Path.{_≡_, refl, sym, ap, _∙_}
+use mathlib.Core.Path.{_≡_, refl, sym, _∙_}
 use mathlib.Core.List.{List, _∷_}
 use native.Mathlib.Numerals.{add-one}
 use native.Mathlib.Omega.{arith}
@@ -40,10 +40,10 @@ module _ {text : List ℕ} {at : ℕ} {bytes : List ℕ} {k : ℕ} (s : WordSoFa
         passed = omega arith;
         within = omega arith;
         left =
-        sym
-        (rw (from-byte bytes k hk, from-byte text (at + k) ht, next)
-        (after-word-more _ _ (drop (k + 1) bytes) (drop (at + (k + 1)) text) (eq-eqb _ _ e)))
-        ∙ s .left;
+            sym
+            (rw (from-byte bytes k hk, from-byte text (at + k) ht, next)
+            (after-word-more _ _ (drop (k + 1) bytes) (drop (at + (k + 1)) text) (eq-eqb _ _ e)))
+            ∙ s .left;
       }
 
   -- another byte

@@ -1,8 +1,8 @@
 -- What a caller learns from a line reader's answer. Assumes nothing.
-use Prim.Native.Nat.{ℕ, _≤_, _<_}
-use mathlib.Core.Path.{_≡_, refl, sym, ap, _∙_}
+use Prim.Native.Nat.{ℕ, _≤_}
+use mathlib.Core.Path.{_≡_, refl, sym}
 use mathlib.Core.Logic.{⊎-elim}
-use mathlib.Core.Bool.{Bool, true, false, _&&_, _||_}
+use mathlib.Core.Bool.{Bool, true, _&&_}
 use mathlib.Core.List.{List, [], _∷_}
 use native.Mathlib.Omega.{arith}
 use lib.Dec.{eqb, leb}
@@ -11,7 +11,7 @@ use borrow.Author.Tests.{eqb-true, leb-true}
 use Rattle.theory.proofs.Tests.{left-of, right-of, either}
 use Rattle.theory.proofs.Below.{below-or-not}
 use Rattle.wording.specs.Word.{Choice, Kind, actLine, permLine, acts, perms, form, worded, endText}
-use Rattle.wording.specs.Line.{Line, value, bad, lineOf, lineText, fits, after, otherwise, afterWord}
+use Rattle.wording.specs.Line.{Line, value, bad, lineOf, lineText, fits, otherwise, afterWord}
 use Rattle.wording.specs.Lines.{offset}
 use Rattle.wording.proofs.Line.{line-read}
 use Rattle.wording.proofs.Lines.{rest-within}

@@ -1,6 +1,6 @@
 -- Reading one of several words, and the key and the value of a line, at a place in the text. Assumes nothing.
 use Prim.Native.Nat.{ℕ, _≤_, _<_}
-use mathlib.Core.Path.{_≡_, refl, sym, ap, _∙_}
+use mathlib.Core.Path.{_≡_, refl, ap, _∙_}
 use mathlib.Core.List.{List, [], _∷_, _++_}
 use native.Mathlib.Omega.{arith}
 use lib.ListN.{length, drop, drop-of-length-le}
@@ -18,7 +18,7 @@ use Rattle.lines.specs.declared.LineKind.the-variants.{N, Soa, Layer, Ac
 use Rattle.lines.proofs.LineKind.{the-type}
 use Rattle.lines.specs.declared.WordRead.the-variants.{Next, Other}
 use Rattle.lines.specs.declared.LineRead.{LineRead}
-use Rattle.lines.specs.declared.LineRead.the-variants.{Value, Bad}
+use Rattle.lines.specs.declared.LineRead.the-variants.{Bad}
 
 -- the first of the words, or else one of the others
 choice-first : (text : List ℕ) (c : Choice) (cs : List Choice) (t : List ℕ) →

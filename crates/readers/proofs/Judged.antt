@@ -1,10 +1,10 @@
 -- The register reader's outcome, from what it read and found. Assumes nothing.
-use Prim.Native.Nat.{ℕ, suc, _*_, _-_, _≤_}
+use Prim.Native.Nat.{ℕ, _*_, _-_, _≤_}
 use mathlib.Core.Path.{_≡_, refl, sym, ap, _∙_}
 use mathlib.Core.Bool.{Bool, true, false}
 use mathlib.Core.List.{List, [], _∷_, _++_}
 use native.Mathlib.Omega.{arith}
-use lib.Dec.{eqb, ltb}
+use lib.Dec.{ltb}
 use lib.ListN.{length, drop, replicate, length-replicate}
 use borrow.Author.Tests.{ltb-false, eq-eqb, ne-eqb}
 use Rattle.rights.specs.declared.Header.{Header}
@@ -17,7 +17,7 @@ use Rattle.wording.proofs.Order.{Ascending}
 use Rattle.wording.proofs.Records.{before-first, records-read}
 use Rattle.wording.proofs.Filled.{length-filled}
 use Rattle.wording.proofs.Accepted.{accepted}
-use Rattle.records.specs.Stored.{storedOne, stored, found, stopped, foundOn, foundAt, answerOf, cellsOf, recordsAt, RecordsTold}
+use Rattle.records.specs.Stored.{storedOne, stored, foundOn, foundAt, answerOf, cellsOf, recordsAt, RecordsTold}
 use Rattle.records.specs.declared.RecordsRead.the-variants.{End, BadAt as StopAt}
 use Rattle.records.proofs.SoFar.{stored-length}
 use Rattle.records.proofs.Granted.{stored-filled, register-part}

@@ -1,6 +1,6 @@
 -- The rest that a reader hands back is the caller's own text. Assumes nothing.
 use Prim.Native.Nat.{ℕ, _-_, _≤_, _<_}
-use mathlib.Core.Path.{_≡_, refl, sym, ap, _∙_}
+use mathlib.Core.Path.{_≡_, sym, ap, _∙_}
 use mathlib.Core.Bool.{Bool, true, false, cond}
 use mathlib.Core.List.{List}
 use native.Mathlib.Omega.{arith}
@@ -8,7 +8,7 @@ use lib.Dec.{eqb}
 use lib.ListN.{length, take, drop, length-drop, drop-of-length-le}
 use lib.Seq.{take-all, take-nil, drop-length}
 use Rattle.wording.specs.Lines.{Reading, got, badAt, offset, linesOf, commandLines}
-use Rattle.wording.specs.RegisterReader.{Content, contentOf, contentRefusal, filled, RegisterRead as Outcome, registerDone, registerRefused, judged, registerRead}
+use Rattle.wording.specs.RegisterReader.{Content, contentOf, contentRefusal, filled, registerDone, registerRefused, judged, registerRead}
 use Rattle.wording.specs.CommandReader.{commandJudged, commandRead}
 use Rattle.wording.proofs.RegisterText as register-text
 use Rattle.wording.proofs.CommandText as command-text

@@ -1,17 +1,16 @@
 -- Lines of given kinds one after the other: what has been read so far, and what each line makes of that. Assumes nothing.
 use Prim.Native.Nat.{ℕ, _≤_}
-use mathlib.Core.Path.{_≡_, refl, sym, ap, _∙_}
+use mathlib.Core.Path.{_≡_, refl, ap, _∙_}
 use mathlib.Core.List.{List, [], _∷_, _++_}
 use native.Mathlib.Omega.{arith}
 use lib.ListN.{length, drop}
 use Rattle.wording.specs.Word.{Kind, nLine, soaLine, layerLine, actLine, byLine, toLine, permLine}
-use Rattle.wording.specs.Line.{value, bad, lineOf}
-use Rattle.wording.specs.Lines.{Reading, got, badAt, andBefore, offset, linesOf, headerLines, headerOf, commandLines, commandOf}
+use Rattle.wording.specs.Lines.{Reading, got, badAt, andBefore, linesOf, headerLines, headerOf, commandLines, commandOf}
 use Rattle.wording.specs.CommandReader.{commandJudged, commandRead}
 use Rattle.lines.specs.Read.{lineAt}
 use Rattle.lines.specs.declared.LineRead.the-variants.{Value, Bad}
 use Rattle.lines.proofs.Byte.{offset-drop}
-use Rattle.lines.proofs.Found.{LineFound, line-found, line-bad}
+use Rattle.lines.proofs.Found.{line-found, line-bad}
 use Rattle.readers.specs.Told.{headerRead, headerIn, commandAnswer, commandTold, commandRefused}
 use Rattle.readers.specs.declared.HeaderRead.the-variants.{Got, BadAt}
 

@@ -3,7 +3,7 @@ use Prim.Native.Nat.{ℕ, _+_, _*_, _-_, _/_, _%_, _≤_, _<_}
 use mathlib.Core.Path.{_≡_, refl, sym, ap, _∙_}
 use mathlib.Core.Logic.{⊎-elim}
 use mathlib.Core.Bool.{Bool, true, false, _&&_, cond}
-use mathlib.Core.List.{List, [], _∷_, _++_}
+use mathlib.Core.List.{List, _++_}
 use native.Mathlib.Omega.{arith}
 use lib.Arith.{digits-lt, digits-div, digits-mod}
 use lib.Dec.{eqb, ltb}
@@ -23,7 +23,7 @@ use Rattle.wording.specs.Records.{Record}
 use Rattle.wording.specs.RegisterReader.{nothing, added, filled}
 use Rattle.wording.proofs.Truth.{never}
 use Rattle.wording.proofs.Cell.{code-decoded}
-use Rattle.wording.proofs.Order.{Proper, Ascending, none, more}
+use Rattle.wording.proofs.Order.{Ascending, none, more}
 use Rattle.wording.proofs.Filled.{length-filled}
 use Rattle.records.specs.Stored.{placeOf, roomFor, storedOne, stored}
 

@@ -2,12 +2,10 @@
 use Prim.Native.Nat.{ℕ, _+_, _≤_, _<_}
 use mathlib.Core.Path.{_≡_, refl, sym, ap, _∙_}
 use mathlib.Core.Bool.{Bool, true, false, _||_, or-assoc, or-false, cond}
-use mathlib.Core.List.{List, []}
+use mathlib.Core.List.{List}
 use native.Mathlib.Omega.{arith}
 use lib.ListN.{length, drop, set, length-set}
 use Rattle.rights.specs.declared.Header.{Header}
-use Rattle.wording.specs.Word.{endText}
-use Rattle.wording.specs.Line.{otherwise, afterWord}
 use Rattle.wording.specs.Lines.{Reading, got, badAt, andBefore, offset}
 use Rattle.wording.specs.Records.{Record, first, recordText, recordFrom}
 use Rattle.wording.specs.RegisterReader.{anyRecord, outside, forbidden}
@@ -20,7 +18,7 @@ use Rattle.lines.specs.declared.WordRead.the-variants.{Next, Other}
 use Rattle.lines.proofs.Byte.{offset-drop}
 use Rattle.lines.proofs.Found.{end-found, end-other}
 use Rattle.records.specs.Read.{textRecord, recordOf, recordRead}
-use Rattle.records.specs.Stored.{placeOf, roomFor, storedOne, stored, found, stopped, foundOn, foundAt, foundIs}
+use Rattle.records.specs.Stored.{placeOf, roomFor, storedOne, stored, stopped, foundOn, foundAt, foundIs}
 use Rattle.records.specs.declared.Record as Read
 use Rattle.records.specs.declared.RecordRead.the-variants.{Got, BadAt}
 use Rattle.records.specs.declared.RecordsRead.the-variants.{End, BadAt as StopAt}
@@ -100,9 +98,9 @@ module _ {text : List ℕ} {start : ℕ} {h : Header} {cells₀ cells : List ℕ
             before = before-next r (one .proper);
             as-long = stored-length h cells r ∙ s .as-long;
             left =
-            sym (found-more text h out barred cells r (recordsOn r (drop next text)))
-            ∙ ap (foundOn text h out barred cells) (sym (step-more last (drop at text) r (drop next text) (s .before) (end-other text at e) w'))
-            ∙ s .left;
+                sym (found-more text h out barred cells r (recordsOn r (drop next text)))
+                ∙ ap (foundOn text h out barred cells) (sym (step-more last (drop at text) r (drop next text) (s .before) (end-other text at e) w'))
+                ∙ s .left;
           }
           in
           rw (← same) record { state = state; further = omega (arith, record-long r) }

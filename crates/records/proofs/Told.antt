@@ -8,7 +8,7 @@ use lib.ListN.{length, drop, replicate, drop-of-length-le}
 use Rattle.rights.specs.declared.Header.{Header}
 use Rattle.wording.specs.Lines.{offset}
 use Rattle.wording.specs.Records.{recordsFrom}
-use Rattle.records.specs.Stored.{Found, found, stopped, foundOn, foundAt, foundIs, answerOf, cellsOf, recordsAt, RecordsTold}
+use Rattle.records.specs.Stored.{foundOn, foundAt, foundIs, answerOf, cellsOf, recordsAt, RecordsTold}
 use Rattle.records.specs.declared.RecordsRead.{RecordsRead}
 use Rattle.records.specs.declared.RecordsRead.the-variants.{End, BadAt}
 

@@ -1,10 +1,8 @@
-use Rattle.lines.proofs.Words.{acts-read}
+-- `lines::act` meets its contract: the words in turn, the last one first. Assumes nothing.
 use borrow.Author.Needs.{needs}
+use Rattle.lines.proofs.Words.{acts-read}
 use Rattle.lines.proofs.act.Statement.{statement}
 use Rattle.lines.proofs.act.Tie as tie
-use Rattle.lines.proofs.act.Reads as reads
-use Rattle.lines.proofs.act.Lts as lts
-use Rattle.lines.proofs.choice.Reads as choice-reads
 
 slice-aggregate-choice : tie.Need-slice-aggregate-choice
 slice-aggregate-choice c = search needs

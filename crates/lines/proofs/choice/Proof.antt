@@ -1,11 +1,9 @@
+-- `lines::choice` meets its contract: the word stands there, or the others decide. Assumes nothing.
 use mathlib.Core.Path.{refl, sym, _∙_}
-use Rattle.lines.specs.Read.{choiceRead}
 use borrow.Author.Needs.{needs}
+use Rattle.lines.specs.Read.{choiceRead}
 use Rattle.lines.proofs.choice.Statement.{statement}
 use Rattle.lines.proofs.choice.Tie as tie
-use Rattle.lines.proofs.choice.Reads as reads
-use Rattle.lines.proofs.choice.Lts as lts
-use Rattle.lines.proofs.word.Reads as word-reads
 
 word-requires : tie.Need-word-requires
 word-requires c κs = search needs

@@ -1,12 +1,10 @@
+-- `lines::end_line` meets its contract: past the end of the text there is no end line. Assumes nothing.
+use borrow.Author.Needs.{needs}
 use Rattle.wording.specs.Word.{endText}
 use Rattle.lines.specs.Read.{endAt}
 use Rattle.lines.proofs.Words.{no-end}
-use borrow.Author.Needs.{needs}
 use Rattle.lines.proofs.end_line.Statement.{statement}
 use Rattle.lines.proofs.end_line.Tie as tie
-use Rattle.lines.proofs.end_line.Reads as reads
-use Rattle.lines.proofs.end_line.Lts as lts
-use Rattle.lines.proofs.word.Reads as word-reads
 
 returns : tie.Need-returns
 returns c = no-end _ _ (c .if1 .taken)

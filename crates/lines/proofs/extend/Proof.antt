@@ -1,10 +1,9 @@
+-- `lines::extend` meets its contract: a number that may go on fits 16 bits. Assumes nothing.
 use native.Mathlib.Omega.{arith}
 use Rattle.wording.specs.Line.{extended}
 use Rattle.wording.proofs.Number.{goes-on}
 use Rattle.lines.proofs.extend.Statement.{statement}
 use Rattle.lines.proofs.extend.Tie as tie
-use Rattle.lines.proofs.extend.Reads as reads
-use Rattle.lines.proofs.extend.Lts as lts
 
 mul-result : tie.Need-mul-result
 unfolding extended

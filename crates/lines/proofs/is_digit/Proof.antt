@@ -1,9 +1,8 @@
+-- `lines::is_digit` meets its contract: the byte is tested from below and from above. Assumes nothing.
 use borrow.Author.Tests.{lt-leb, le-leb}
 use Rattle.wording.specs.Line.{isDigit}
 use Rattle.lines.proofs.is_digit.Statement.{statement}
 use Rattle.lines.proofs.is_digit.Tie as tie
-use Rattle.lines.proofs.is_digit.Reads as reads
-use Rattle.lines.proofs.is_digit.Lts as lts
 
 returns : tie.Need-returns
 unfolding isDigit

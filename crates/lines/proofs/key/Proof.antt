@@ -1,11 +1,9 @@
+-- `lines::key` meets its contract: each kind has its own key. Assumes nothing.
+use borrow.Author.Needs.{needs}
 use Rattle.wording.specs.Word.{key}
 use Rattle.lines.specs.Read.{kindOf}
-use borrow.Author.Needs.{needs}
 use Rattle.lines.proofs.key.Statement.{statement}
 use Rattle.lines.proofs.key.Tie as tie
-use Rattle.lines.proofs.key.Reads as reads
-use Rattle.lines.proofs.key.Lts as lts
-use Rattle.lines.proofs.word.Reads as word-reads
 
 enum-told : tie.Need-enum-told
 enum-told c = search needs

@@ -1,12 +1,9 @@
+-- `lines::line` meets its contract: behind the key stands the value; past the end of the text every line is bad. Assumes nothing.
 use mathlib.Core.Path.{sym, _∙_}
-use Rattle.lines.proofs.Words.{no-line, word-found, other-key, behind-key}
 use borrow.Author.Needs.{needs}
+use Rattle.lines.proofs.Words.{no-line, word-found, other-key, behind-key}
 use Rattle.lines.proofs.line.Statement.{statement}
 use Rattle.lines.proofs.line.Tie as tie
-use Rattle.lines.proofs.line.Reads as reads
-use Rattle.lines.proofs.line.Lts as lts
-use Rattle.lines.proofs.key.Reads as key-reads
-use Rattle.lines.proofs.value.Reads as value-reads
 
 returns : tie.Need-returns
 returns c = no-line _ _ _ (c .if1 .taken)

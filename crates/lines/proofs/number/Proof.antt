@@ -1,18 +1,13 @@
-use mathlib.Core.Path.{sym, _∙_}
+-- `lines::number` meets its contract. The loop's invariant: the digits left give what the whole number gives. Assumes nothing.
 use Prim.Native.Nat.{_-_}
 use native.Mathlib.Omega.{arith}
+use mathlib.Core.Path.{sym, _∙_}
 use lib.ListN.{length}
 use borrow.Author.Needs.{needs}
 use borrow.Author.Tests.{not-true, not-false}
 use Rattle.lines.proofs.Digits.{NumberSoFar, number-none, number-other, number-start, number-more, number-stop, number-end, number-missing}
 use Rattle.lines.proofs.number.Statement.{statement}
 use Rattle.lines.proofs.number.Tie as tie
-use Rattle.lines.proofs.number.Reads as reads
-use Rattle.lines.proofs.number.Lts as lts
-use Rattle.lines.proofs.extend.Reads as extend-reads
-use Rattle.lines.proofs.first_digit.Reads as first-digit-reads
-use Rattle.lines.proofs.goes_on.Reads as goes-on-reads
-use Rattle.lines.proofs.is_digit.Reads as is-digit-reads
 
 abbrev Inv-loop : tie.InvT-loop
 Inv-loop text at v₀ i₀ v i = NumberSoFar text at v i

@@ -1,10 +1,8 @@
-use Rattle.lines.proofs.Words.{perms-read}
+-- `lines::perm` meets its contract: the words in turn, the last one first. Assumes nothing.
 use borrow.Author.Needs.{needs}
+use Rattle.lines.proofs.Words.{perms-read}
 use Rattle.lines.proofs.perm.Statement.{statement}
 use Rattle.lines.proofs.perm.Tie as tie
-use Rattle.lines.proofs.perm.Reads as reads
-use Rattle.lines.proofs.perm.Lts as lts
-use Rattle.lines.proofs.choice.Reads as choice-reads
 
 slice-aggregate-choice : tie.Need-slice-aggregate-choice
 slice-aggregate-choice c = search needs

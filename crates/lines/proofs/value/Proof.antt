@@ -1,15 +1,11 @@
+-- `lines::value` meets its contract: an act and a permission have words, the other kinds a number. Assumes nothing.
+use borrow.Author.Needs.{needs}
 use Rattle.wording.specs.Word.{form}
 use Rattle.wording.specs.Line.{valueOf}
 use Rattle.lines.specs.Read.{kindOf}
 use Rattle.lines.proofs.Words.{number-form}
-use borrow.Author.Needs.{needs}
 use Rattle.lines.proofs.value.Statement.{statement}
 use Rattle.lines.proofs.value.Tie as tie
-use Rattle.lines.proofs.value.Reads as reads
-use Rattle.lines.proofs.value.Lts as lts
-use Rattle.lines.proofs.act.Reads as act-reads
-use Rattle.lines.proofs.number.Reads as number-reads
-use Rattle.lines.proofs.perm.Reads as perm-reads
 
 enum-told : tie.Need-enum-told
 enum-told c = search needs

@@ -1,5 +1,4 @@
--- `lines::word` meets its contract. The loop's invariant: what is left of the word behind the bytes passed gives what the whole
--- word gives. Assumes nothing.
+-- `lines::word` meets its contract. The loop's invariant: what is left of the word gives what the whole word gives. Assumes nothing.
 use Prim.Native.Nat.{_-_}
 use native.Mathlib.Omega.{arith}
 use lib.ListN.{length}

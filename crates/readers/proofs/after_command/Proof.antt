@@ -1,11 +1,8 @@
-use Rattle.readers.proofs.Rest.{command-rest-told}
+-- `readers::after_command` meets its contract: the rest starts where the command ends. Assumes nothing.
 use borrow.Author.Needs.{needs}
+use Rattle.readers.proofs.Rest.{command-rest-told}
 use Rattle.readers.proofs.after_command.Statement.{statement}
 use Rattle.readers.proofs.after_command.Tie as tie
-use Rattle.readers.proofs.after_command.Reads as reads
-use Rattle.readers.proofs.after_command.Lts as lts
-use Rattle.readers.proofs.command_rest.Reads as command-rest-reads
-use Rattle.readers.proofs.read_command.Reads as read-command-reads
 
 read-command-requires : tie.Need-read-command-requires
 read-command-requires c κs = search needs

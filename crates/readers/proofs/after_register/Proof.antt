@@ -1,11 +1,8 @@
-use Rattle.readers.proofs.Rest.{register-rest-told}
+-- `readers::after_register` meets its contract: the rest starts where the register ends. Assumes nothing.
 use borrow.Author.Needs.{needs}
+use Rattle.readers.proofs.Rest.{register-rest-told}
 use Rattle.readers.proofs.after_register.Statement.{statement}
 use Rattle.readers.proofs.after_register.Tie as tie
-use Rattle.readers.proofs.after_register.Reads as reads
-use Rattle.readers.proofs.after_register.Lts as lts
-use Rattle.readers.proofs.read_register.Reads as read-register-reads
-use Rattle.readers.proofs.register_rest.Reads as register-rest-reads
 
 read-register-requires : tie.Need-read-register-requires
 read-register-requires c κs = search needs

@@ -1,19 +1,14 @@
+-- `readers::behind_header` meets its contract: a bad line, a refusal of the records, or the register. Assumes nothing.
 use Prim.Native.Nat.{ℕ}
+use native.Mathlib.Omega.{arith}
 use mathlib.Core.Path.{_≡_, sym, _∙_}
 use mathlib.Core.List.{List}
-use native.Mathlib.Omega.{arith}
+use borrow.Author.Needs.{needs}
 use Rattle.records.specs.Stored.{Found, RecordsTold}
 use Rattle.records.specs.declared.RecordsRead.{RecordsRead}
 use Rattle.readers.proofs.Judged.{judged-bad, judged-done, judged-not}
-use borrow.Author.Needs.{needs}
 use Rattle.readers.proofs.behind_header.Statement.{statement}
 use Rattle.readers.proofs.behind_header.Tie as tie
-use Rattle.readers.proofs.behind_header.Reads as reads
-use Rattle.readers.proofs.behind_header.Lts as lts
-use Rattle.readers.proofs.no_register.Reads as no-register-reads
-use Rattle.readers.proofs.refusal.Reads as refusal-reads
-use Rattle.records.proofs.clear.Reads as clear-reads
-use Rattle.records.proofs.read_records.Reads as read-records-reads
 
 -- what was told of the records is told of the answer that was taken apart
 all-told : {f : Found} {size : ℕ} {r s : RecordsRead} {cells : List ℕ} → RecordsTold f size r cells → r ≡ s → RecordsTold f size s cells
@@ -56,7 +51,7 @@ same-length-3 : tie.Need-same-length-3
 same-length-3 c = search needs
 
 returns-3 : tie.Need-returns-3
-returns-3 c = 
+returns-3 c =
     judged-not _ _ _ _ (all-told (c .before .before .before .before .before .before .before .before .before .before .before .before .before .read-records .ensures) (c .before .before .before .before .before .before .before .before .before .outside .given .1)) (c .before .before .before .before .before .before .refusal .ensures) (c .before .before .before .before .before .if1 .left) (c .before .before .before .clear .ensures) (omega arith)
     (c .no-register2 .ensures)
 

@@ -1,10 +1,9 @@
+-- `readers::no_command` meets its contract: zeros. Assumes nothing.
 use mathlib.Core.Path.{refl}
 use Rattle.wording.specs.CommandReader.{noCommand}
 use Rattle.readers.specs.Told.{commandRefused}
 use Rattle.readers.proofs.no_command.Statement.{statement}
 use Rattle.readers.proofs.no_command.Tie as tie
-use Rattle.readers.proofs.no_command.Reads as reads
-use Rattle.readers.proofs.no_command.Lts as lts
 
 returns : tie.Need-returns
 unfolding commandRefused noCommand

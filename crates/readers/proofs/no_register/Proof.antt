@@ -1,10 +1,9 @@
+-- `readers::no_register` meets its contract: zeros. Assumes nothing.
 use mathlib.Core.Path.{refl}
 use Rattle.wording.specs.RegisterReader.{noHeader}
 use Rattle.readers.specs.Told.{registerNot}
 use Rattle.readers.proofs.no_register.Statement.{statement}
 use Rattle.readers.proofs.no_register.Tie as tie
-use Rattle.readers.proofs.no_register.Reads as reads
-use Rattle.readers.proofs.no_register.Lts as lts
 
 returns : tie.Need-returns
 unfolding registerNot noHeader

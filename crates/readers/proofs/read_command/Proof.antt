@@ -1,18 +1,15 @@
+-- `readers::read_command` meets its contract: what has been read so far, line by line. Assumes nothing.
+use native.Mathlib.Omega.{arith}
 use mathlib.Core.Path.{sym, _∙_}
 use mathlib.Core.List.{[], _∷_}
-use native.Mathlib.Omega.{arith}
+use borrow.Author.Needs.{needs}
 use Rattle.wording.specs.Word.{layerLine, byLine, toLine, permLine}
 use Rattle.wording.specs.Lines.{commandLines, commandOf}
 use Rattle.lines.specs.Read.{kindOf}
 use Rattle.lines.proofs.Found.{line-found, act-small, perm-small}
 use Rattle.readers.proofs.SoFar.{LinesSoFar, command-start, lines-more, command-bad, command-got}
-use borrow.Author.Needs.{needs}
 use Rattle.readers.proofs.read_command.Statement.{statement}
 use Rattle.readers.proofs.read_command.Tie as tie
-use Rattle.readers.proofs.read_command.Reads as reads
-use Rattle.readers.proofs.read_command.Lts as lts
-use Rattle.lines.proofs.line.Reads as line-reads
-use Rattle.readers.proofs.no_command.Reads as no-command-reads
 
 act-read : (c : tie.After-known-told) → LinesSoFar (c .before .before .before .before .before .args .text .now) commandLines (layerLine ∷ byLine ∷ toLine ∷ permLine ∷ []) (c .before .act .given .0 .0 ∷ []) (c .before .act .given .0 .1 .0)
 unfolding kindOf

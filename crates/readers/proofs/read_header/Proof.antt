@@ -1,16 +1,13 @@
+-- `readers::read_header` meets its contract: what has been read so far, line by line. Assumes nothing.
 use mathlib.Core.Path.{sym, _∙_}
 use mathlib.Core.List.{[], _∷_}
-use native.Mathlib.Omega.{arith}
+use borrow.Author.Needs.{needs}
 use Rattle.wording.specs.Word.{soaLine, layerLine}
 use Rattle.wording.specs.Lines.{headerLines, headerOf}
 use Rattle.lines.specs.Read.{kindOf}
 use Rattle.readers.proofs.SoFar.{LinesSoFar, header-start, lines-more, header-bad, header-got}
-use borrow.Author.Needs.{needs}
 use Rattle.readers.proofs.read_header.Statement.{statement}
 use Rattle.readers.proofs.read_header.Tie as tie
-use Rattle.readers.proofs.read_header.Reads as reads
-use Rattle.readers.proofs.read_header.Lts as lts
-use Rattle.lines.proofs.line.Reads as line-reads
 
 n-read : (c : tie.After-known-told) → LinesSoFar (c .before .before .before .before .before .args .text .now) headerLines (soaLine ∷ layerLine ∷ []) (c .before .n .given .0 .0 ∷ []) (c .before .n .given .0 .1 .0)
 unfolding kindOf

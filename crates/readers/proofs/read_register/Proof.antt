@@ -1,14 +1,9 @@
+-- `readers::read_register` meets its contract: behind the header the records decide. Assumes nothing.
 use mathlib.Core.Path.{sym, _∙_}
-use Rattle.readers.proofs.Judged.{header-found, header-missing}
 use borrow.Author.Needs.{needs}
+use Rattle.readers.proofs.Judged.{header-found, header-missing}
 use Rattle.readers.proofs.read_register.Statement.{statement}
 use Rattle.readers.proofs.read_register.Tie as tie
-use Rattle.readers.proofs.read_register.Reads as reads
-use Rattle.readers.proofs.read_register.Lts as lts
-use Rattle.readers.proofs.behind_header.Reads as behind-header-reads
-use Rattle.readers.proofs.no_register.Reads as no-register-reads
-use Rattle.readers.proofs.read_header.Reads as read-header-reads
-use Rattle.records.proofs.clear.Reads as clear-reads
 
 read-header-requires : tie.Need-read-header-requires
 read-header-requires c κs = search needs

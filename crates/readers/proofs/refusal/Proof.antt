@@ -1,18 +1,15 @@
+-- `readers::refusal` meets its contract: each check by the tests that led there. Assumes nothing.
 use Prim.Native.Nat.{ℕ, _*_, _-_}
-use lib.ListN.{take}
-use Rattle.rights.specs.Sound.{registerRefusal}
-use mathlib.Core.Path.{_≡_, sym, ap, _∙_}
 use native.Mathlib.Omega.{arith}
+use mathlib.Core.Path.{_≡_, sym, ap, _∙_}
+use lib.ListN.{take}
 use borrow.Author.Tests.{not-true, not-false}
+use borrow.Author.Needs.{needs}
+use Rattle.rights.specs.Sound.{registerRefusal}
 use Rattle.cells.proofs.Place.{product}
 use Rattle.readers.proofs.Checks.{refuses-1, refuses-2, refuses-6, refuses-7, refuses-3}
-use borrow.Author.Needs.{needs}
 use Rattle.readers.proofs.refusal.Statement.{statement}
 use Rattle.readers.proofs.refusal.Tie as tie
-use Rattle.readers.proofs.refusal.Reads as reads
-use Rattle.readers.proofs.refusal.Lts as lts
-use Rattle.cells.proofs.headed.Reads as headed-reads
-use Rattle.sound.proofs.register_refusal.Reads as register-refusal-reads
 
 headed-requires : tie.Need-headed-requires
 headed-requires c κs = search needs

@@ -1,11 +1,10 @@
-use mathlib.Core.Path.{refl}
+-- `readers::rest_from` meets its contract: a part that starts in the text, or at its end. Assumes nothing.
 use native.Mathlib.Omega.{arith}
-use Rattle.readers.proofs.Rest.{part-there, part-past}
+use mathlib.Core.Path.{refl}
 use borrow.Author.Needs.{needs}
+use Rattle.readers.proofs.Rest.{part-there, part-past}
 use Rattle.readers.proofs.rest_from.Statement.{statement}
 use Rattle.readers.proofs.rest_from.Tie as tie
-use Rattle.readers.proofs.rest_from.Reads as reads
-use Rattle.readers.proofs.rest_from.Lts as lts
 
 sub-result : tie.Need-sub-result
 sub-result c = search needs

@@ -1,10 +1,9 @@
+-- `records::before_all` meets its contract: every record comes after it. Assumes nothing.
 use mathlib.Core.Path.{refl}
 use Rattle.wording.specs.Records.{first}
 use Rattle.records.specs.Read.{textRecord}
 use Rattle.records.proofs.before_all.Statement.{statement}
 use Rattle.records.proofs.before_all.Tie as tie
-use Rattle.records.proofs.before_all.Reads as reads
-use Rattle.records.proofs.before_all.Lts as lts
 
 returns : tie.Need-returns
 unfolding textRecord first

@@ -1,14 +1,13 @@
+-- `records::clear` meets its contract. The loop's invariant: the bytes passed are zero, and the others as they were. Assumes nothing.
 use Prim.Native.Nat.{ℕ, _≤_, _-_}
+use native.Mathlib.Omega.{arith}
 use mathlib.Core.Path.{_≡_, refl, ap, _∙_}
 use mathlib.Core.List.{List, _++_, append-nil}
-use native.Mathlib.Omega.{arith}
 use lib.ListN.{length, set, drop, replicate, length-set}
 use lib.Seq.{drop-length}
-use borrow.Author.Fill.{fill-none, fill-more}
+use borrow.Author.Fill.{fill-more}
 use Rattle.records.proofs.clear.Statement.{statement}
 use Rattle.records.proofs.clear.Tie as tie
-use Rattle.records.proofs.clear.Reads as reads
-use Rattle.records.proofs.clear.Lts as lts
 
 all-zero : (k : ℕ) (d : List ℕ) → k ≡ length d → replicate k 0 ++ drop k d ≡ replicate (length d) 0
 all-zero k d e = rw (e, drop-length) (append-nil _)
@@ -32,7 +31,7 @@ loop-less : tie.Need-loop-less Inv-loop μ-loop
 loop-less c = omega arith
 
 loop-again : tie.Need-loop-again Inv-loop μ-loop
-loop-again c = 
+loop-again c =
     let s = c .before .loop in
     let d = c .before .before .args .cells .now in
     (omega arith, ap (λ (l : List ℕ). set l (s .k) 0) (s .inv .1) ∙ fill-more (s .k) 0 d (omega arith), length-set (s .cells) (s .k) 0 ∙ s .inv .2)
@@ -41,7 +40,7 @@ same-length : tie.Need-same-length Inv-loop μ-loop
 same-length c = omega arith
 
 returns : tie.Need-returns Inv-loop μ-loop
-returns c = 
+returns c =
     let s = c .before .loop in
     s .inv .1 ∙ all-zero (s .k) (c .before .before .args .cells .now) (omega arith)
 

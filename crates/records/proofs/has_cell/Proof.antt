@@ -1,13 +1,11 @@
+-- `records::has_cell` meets its contract: grantor and subject are offices, and the byte is in the buffer. Assumes nothing.
 use mathlib.Core.Path.{refl}
 use borrow.Author.Tests.{lt-ltb, le-ltb}
+use borrow.Author.Needs.{needs}
 use Rattle.records.specs.Read.{textRecord}
 use Rattle.records.specs.Stored.{roomFor}
-use borrow.Author.Needs.{needs}
 use Rattle.records.proofs.has_cell.Statement.{statement}
 use Rattle.records.proofs.has_cell.Tie as tie
-use Rattle.records.proofs.has_cell.Reads as reads
-use Rattle.records.proofs.has_cell.Lts as lts
-use Rattle.records.proofs.place.Reads as place-reads
 
 returns : tie.Need-returns
 unfolding roomFor textRecord

@@ -1,13 +1,12 @@
+-- `records::or_forbidden` meets its contract: the diagonal, or the column of SOA. Assumes nothing.
 use mathlib.Core.Path.{refl}
 use borrow.Author.Tests.{eq-eqb, ne-eqb}
+use borrow.Author.Needs.{needs}
 use Rattle.rights.specs.Sound.{barred}
 use Rattle.wording.specs.RegisterReader.{forbidden}
 use Rattle.records.specs.Read.{textRecord}
-use borrow.Author.Needs.{needs}
 use Rattle.records.proofs.or_forbidden.Statement.{statement}
 use Rattle.records.proofs.or_forbidden.Tie as tie
-use Rattle.records.proofs.or_forbidden.Reads as reads
-use Rattle.records.proofs.or_forbidden.Lts as lts
 
 returns : tie.Need-returns
 returns c = search needs

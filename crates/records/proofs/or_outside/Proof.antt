@@ -1,13 +1,12 @@
+-- `records::or_outside` meets its contract: where the grantor is an office, the subject decides. Assumes nothing.
 use mathlib.Core.Path.{refl}
 use borrow.Author.Tests.{le-ltb}
+use borrow.Author.Needs.{needs}
 use Rattle.wording.specs.RegisterReader.{outside}
 use Rattle.records.specs.Read.{textRecord}
 use Rattle.records.proofs.Room.{outside-by-subject}
-use borrow.Author.Needs.{needs}
 use Rattle.records.proofs.or_outside.Statement.{statement}
 use Rattle.records.proofs.or_outside.Tie as tie
-use Rattle.records.proofs.or_outside.Reads as reads
-use Rattle.records.proofs.or_outside.Lts as lts
 
 returns : tie.Need-returns
 returns c = search needs

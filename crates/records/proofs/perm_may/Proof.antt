@@ -1,12 +1,11 @@
+-- `records::perm_may` meets its contract: grantor and subject go before the permission, and `none` is no permission of a record. Assumes nothing.
 use mathlib.Core.Path.{refl}
 use borrow.Author.Tests.{lt-ltb, le-ltb, le-leb, lt-leb}
+use borrow.Author.Needs.{needs}
 use Rattle.wording.specs.Records.{permMay}
 use Rattle.records.specs.Read.{textRecord}
-use borrow.Author.Needs.{needs}
 use Rattle.records.proofs.perm_may.Statement.{statement}
 use Rattle.records.proofs.perm_may.Tie as tie
-use Rattle.records.proofs.perm_may.Reads as reads
-use Rattle.records.proofs.perm_may.Lts as lts
 
 returns : tie.Need-returns
 unfolding permMay textRecord

@@ -1,13 +1,12 @@
-use mathlib.Core.Path.{refl}
+-- `records::place` meets its contract: numbers of 16 bits, whose product is one of 32. Assumes nothing.
 use native.Mathlib.Omega.{arith}
+use mathlib.Core.Path.{refl}
+use borrow.Author.Needs.{needs}
+use Rattle.cells.proofs.Place.{product}
 use Rattle.records.specs.Read.{textRecord}
 use Rattle.records.specs.Stored.{placeOf}
-use Rattle.cells.proofs.Place.{product}
-use borrow.Author.Needs.{needs}
 use Rattle.records.proofs.place.Statement.{statement}
 use Rattle.records.proofs.place.Tie as tie
-use Rattle.records.proofs.place.Reads as reads
-use Rattle.records.proofs.place.Lts as lts
 
 cast-result : tie.Need-cast-result
 cast-result c = search needs

@@ -1,18 +1,14 @@
+-- `records::read_record` meets its contract: the first line leads on to the second, or is bad. Assumes nothing.
 use mathlib.Core.Path.{sym, ap, _∙_}
-use native.Mathlib.Omega.{arith}
-use Rattle.lines.specs.Read.{kindOf}
-use Rattle.records.specs.Read.{textRecord, recordOf, recordRead, recordAt}
-use Rattle.lines.proofs.Found.{line-found, perm-small}
 use borrow.Author.Tests.{le-leb, lt-leb}
-use Rattle.wording.specs.Records.{byMay}
-use Rattle.records.proofs.Step.{by-bad, by-not, by-goes-on}
 use borrow.Author.Needs.{needs}
+use Rattle.wording.specs.Records.{byMay}
+use Rattle.lines.specs.Read.{kindOf}
+use Rattle.lines.proofs.Found.{line-found}
+use Rattle.records.specs.Read.{textRecord, recordRead, recordAt}
+use Rattle.records.proofs.Step.{by-bad, by-not, by-goes-on}
 use Rattle.records.proofs.read_record.Statement.{statement}
 use Rattle.records.proofs.read_record.Tie as tie
-use Rattle.records.proofs.read_record.Reads as reads
-use Rattle.records.proofs.read_record.Lts as lts
-use Rattle.lines.proofs.line.Reads as line-reads
-use Rattle.records.proofs.with_to.Reads as with-to-reads
 
 line-requires : tie.Need-line-requires
 line-requires c κs = search needs

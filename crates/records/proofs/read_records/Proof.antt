@@ -1,12 +1,9 @@
+-- `records::read_records` meets its contract: a bad line leaves the buffer zero. Assumes nothing.
 use native.Mathlib.Omega.{arith}
-use Rattle.records.proofs.Told.{told-past, told-end, told-bad}
 use borrow.Author.Needs.{needs}
+use Rattle.records.proofs.Told.{told-past, told-end, told-bad}
 use Rattle.records.proofs.read_records.Statement.{statement}
 use Rattle.records.proofs.read_records.Tie as tie
-use Rattle.records.proofs.read_records.Reads as reads
-use Rattle.records.proofs.read_records.Lts as lts
-use Rattle.records.proofs.clear.Reads as clear-reads
-use Rattle.records.proofs.scan.Reads as scan-reads
 
 clear-requires : tie.Need-clear-requires
 clear-requires c κs = search needs

@@ -1,23 +1,16 @@
+-- `records::scan` meets its contract. The loop's invariant: what is left to read gives what the whole text gives. Assumes nothing.
 use Prim.Native.Nat.{_-_}
-use mathlib.Core.Path.{sym, _∙_}
 use native.Mathlib.Omega.{arith}
-use borrow.Author.Needs.{needs}
+use mathlib.Core.Path.{sym, _∙_}
 use lib.ListN.{length}
+use borrow.Author.Needs.{needs}
 use Rattle.records.specs.Read.{textRecord, recordAt}
 use Rattle.records.proofs.SoFar.{ScanSoFar, scan-start, scan-end, scan-bad, scan-more}
 use Rattle.records.proofs.scan.Statement.{statement}
 use Rattle.records.proofs.scan.Tie as tie
-use Rattle.records.proofs.scan.Reads as reads
-use Rattle.records.proofs.scan.Lts as lts
-use Rattle.lines.proofs.end_line.Reads as end-line-reads
-use Rattle.records.proofs.before_all.Reads as before-all-reads
-use Rattle.records.proofs.or_forbidden.Reads as or-forbidden-reads
-use Rattle.records.proofs.or_outside.Reads as or-outside-reads
-use Rattle.records.proofs.read_record.Reads as read-record-reads
-use Rattle.records.proofs.store.Reads as store-reads
 
 abbrev Inv-loop : tie.InvT-loop
-Inv-loop text start header cells₀ at₀ last₀ outside₀ forbidden₀ cells at last outside forbidden = 
+Inv-loop text start header cells₀ at₀ last₀ outside₀ forbidden₀ cells at last outside forbidden =
     ScanSoFar text start header cells₀ cells at (textRecord last) outside forbidden
 
 abbrev μ-loop : tie.MeasureT-loop
@@ -71,13 +64,13 @@ or-forbidden-requires c κs = search needs
 
 loop-less : tie.Need-loop-less Inv-loop μ-loop
 unfolding recordAt
-loop-less c = 
+loop-less c =
     let m = scan-more (c .before .before .before .before .before .before .before .before .before .before .before .before .before .loop .inv) _ _ (sym (c .before .before .before .before .before .before .before .before .before .before .before .before .end-line .ensures) ∙ c .before .before .before .before .before .before .before .before .before .before .enum-told .given .1) (sym (c .before .before .before .before .before .before .before .before .before .read-record .ensures) ∙ c .before .before .before .before .before .before .before .told .given .1) in
     omega (arith, m .further, m .state .within)
 
 loop-again : tie.Need-loop-again Inv-loop μ-loop
 unfolding recordAt
-loop-again c = 
+loop-again c =
     rw (c .before .before .before .before .store .ensures, c .before .or-outside .ensures, c .or-forbidden .ensures)
     (scan-more (c .before .before .before .before .before .before .before .before .before .before .before .before .before .loop .inv) _ _ (sym (c .before .before .before .before .before .before .before .before .before .before .before .before .end-line .ensures) ∙ c .before .before .before .before .before .before .before .before .before .before .enum-told .given .1) (sym (c .before .before .before .before .before .before .before .before .before .read-record .ensures) ∙ c .before .before .before .before .before .before .before .told .given .1) .state)
 

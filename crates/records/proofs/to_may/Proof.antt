@@ -1,11 +1,10 @@
+-- `records::to_may` meets its contract: the order of grantors goes before that of subjects. Assumes nothing.
 use mathlib.Core.Path.{refl}
 use borrow.Author.Tests.{lt-ltb, le-ltb}
 use Rattle.wording.specs.Records.{toMay}
 use Rattle.records.specs.Read.{textRecord}
 use Rattle.records.proofs.to_may.Statement.{statement}
 use Rattle.records.proofs.to_may.Tie as tie
-use Rattle.records.proofs.to_may.Reads as reads
-use Rattle.records.proofs.to_may.Lts as lts
 
 returns : tie.Need-returns
 unfolding toMay textRecord

@@ -1,16 +1,13 @@
-use mathlib.Core.Path.{sym, ap, _∙_}
+-- `records::with_perm` meets its contract: the third line ends the record, or is bad. Assumes nothing.
 use native.Mathlib.Omega.{arith}
-use Rattle.lines.specs.Read.{kindOf}
-use Rattle.records.specs.Read.{textRecord, recordOf, recordRead, recordAt}
-use Rattle.lines.proofs.Found.{line-found, perm-small}
-use Rattle.records.proofs.Step.{perm-bad, perm-not, perm-got}
+use mathlib.Core.Path.{sym, _∙_}
 use borrow.Author.Needs.{needs}
+use Rattle.lines.specs.Read.{kindOf}
+use Rattle.lines.proofs.Found.{line-found, perm-small}
+use Rattle.records.specs.Read.{recordOf}
+use Rattle.records.proofs.Step.{perm-bad, perm-not, perm-got}
 use Rattle.records.proofs.with_perm.Statement.{statement}
 use Rattle.records.proofs.with_perm.Tie as tie
-use Rattle.records.proofs.with_perm.Reads as reads
-use Rattle.records.proofs.with_perm.Lts as lts
-use Rattle.lines.proofs.line.Reads as line-reads
-use Rattle.records.proofs.perm_may.Reads as perm-may-reads
 
 line-requires : tie.Need-line-requires
 line-requires c κs = search needs

@@ -1,17 +1,12 @@
+-- `records::with_to` meets its contract: the second line leads on to the third, or is bad. Assumes nothing.
 use mathlib.Core.Path.{sym, ap, _∙_}
-use native.Mathlib.Omega.{arith}
-use Rattle.lines.specs.Read.{kindOf}
-use Rattle.records.specs.Read.{textRecord, recordOf, recordRead, recordAt}
-use Rattle.lines.proofs.Found.{line-found, perm-small}
-use Rattle.records.proofs.Step.{to-bad, to-not, to-goes-on}
 use borrow.Author.Needs.{needs}
+use Rattle.lines.specs.Read.{kindOf}
+use Rattle.lines.proofs.Found.{line-found}
+use Rattle.records.specs.Read.{recordRead}
+use Rattle.records.proofs.Step.{to-bad, to-not, to-goes-on}
 use Rattle.records.proofs.with_to.Statement.{statement}
 use Rattle.records.proofs.with_to.Tie as tie
-use Rattle.records.proofs.with_to.Reads as reads
-use Rattle.records.proofs.with_to.Lts as lts
-use Rattle.lines.proofs.line.Reads as line-reads
-use Rattle.records.proofs.to_may.Reads as to-may-reads
-use Rattle.records.proofs.with_perm.Reads as with-perm-reads
 
 line-requires : tie.Need-line-requires
 line-requires c κs = search needs

@@ -16,8 +16,9 @@ use Rattle.rights.specs.Level.{levels}
 use Rattle.rights.specs.Sound.{headed, whole, sound, soundBy, soundCell, barred}
 use Rattle.wording.specs.Records.{Record}
 use Rattle.wording.specs.RegisterReader.{Content, anyRecord, outside, forbidden, filled, contentRefusal}
-use Rattle.wording.proofs.Truth.{never, and-left, and-right}
-use Rattle.wording.proofs.Register.{all-below}
+use Rattle.theory.proofs.Tests.{left-of, right-of}
+use Rattle.wording.proofs.Truth.{never}
+use Rattle.theory.proofs.Below.{all-at}
 use Rattle.wording.proofs.Cell.{has-zero, code-decoded}
 use Rattle.wording.proofs.Order.{Ascending, none, more, stands, stands-first}
 use Rattle.wording.proofs.CellRecords.{allRecords, all-ascending, stands-all}
@@ -59,11 +60,11 @@ not-refused t size a =
 
 pub headed-small : (h : Header) → headed h ≡ true → h .n ≤ 128
 unfolding headed
-headed-small h e = leb-true (h .n) 128 (and-right (leb 2 (h .n)) _ (and-left _ _ e))
+headed-small h e = leb-true (h .n) 128 (right-of (leb 2 (h .n)) _ (left-of _ _ e))
 
 pub headed-soa : (h : Header) → headed h ≡ true → soaOf h < h .n
 unfolding headed
-headed-soa h e = ltb-true (soaOf h) (h .n) (and-right (leb 2 (h .n) && leb (h .n) 128) _ e)
+headed-soa h e = ltb-true (soaOf h) (h .n) (right-of (leb 2 (h .n) && leb (h .n) 128) _ e)
 
 or-left : (a b : Bool) → (a || b) ≡ false → a ≡ false
 or-left true b e = e
@@ -81,8 +82,8 @@ inside h e (more {r} {rs} p f a) =
     let here = not-false _ (or-left (outside h r) _ e) in
     more
     (record {
-      by-below = ltb-true (r .by) (h .n) (and-left _ _ here);
-      to-below = ltb-true (r .to) (h .n) (and-right (ltb (r .by) (h .n)) _ here);
+      by-below = ltb-true (r .by) (h .n) (left-of _ _ here);
+      to-below = ltb-true (r .to) (h .n) (right-of (ltb (r .by) (h .n)) _ here);
       coded = p .coded;
     })
     f (inside h (or-right (outside h r) _ e) a)
@@ -118,16 +119,16 @@ module _ (h : Header) (R : List ℕ) (tested : sound h R ≡ true) where
   sound-cell : (i j : ℕ) → i < h .n → j < h .n → soundCell h R (levels h R) i j ≡ true
   unfolding sound soundBy
   sound-cell i j hi hj =
-      all-below (h .n) (soundCell h R (levels h R) i) j
-      (all-below (h .n) (λ x. allBelow (h .n) (λ y. soundCell h R (levels h R) x y)) i tested hi) hj
+      all-at (h .n) (soundCell h R (levels h R) i)
+      (all-at (h .n) (λ x. allBelow (h .n) (λ y. soundCell h R (levels h R) x y)) tested i hi) j hj
 
   pub sound-small : (i j : ℕ) → i < h .n → j < h .n → cell h R i j ≤ 15
   unfolding soundCell
-  sound-small i j hi hj = leb-true (cell h R i j) 15 (and-left _ _ (and-left _ _ (sound-cell i j hi hj)))
+  sound-small i j hi hj = leb-true (cell h R i j) 15 (left-of _ _ (left-of _ _ (sound-cell i j hi hj)))
 
   sound-free : (i j : ℕ) (q : Permission) → i < h .n → j < h .n → has (cell h R i j) q ≡ true → barred h i j ≡ false
   unfolding soundCell
-  sound-free i j q hi hj e = go (barred h i j) (and-right (leb (cell h R i j) 15) _ (and-left _ _ (sound-cell i j hi hj)))
+  sound-free i j q hi hj e = go (barred h i j) (right-of (leb (cell h R i j) 15) _ (left-of _ _ (sound-cell i j hi hj)))
     where
       go : (b : Bool) → (not b || eqb (cell h R i j) 0) ≡ true → b ≡ false
       go true z = never (cc (eqb-true (cell h R i j) 0 z, has-zero q))

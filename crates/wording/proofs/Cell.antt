@@ -1,85 +1,32 @@
--- Cells as sets of permissions: finite tables, each found by computing and turned into one law.
-use Prim.Native.Nat.{ℕ, _+_, _≤_}
-use mathlib.Core.Path.{_≡_, refl, sym, _∙_}
-use mathlib.Core.Bool.{Bool, true, false, _&&_, _||_, cond, Bool·beq}
+-- Codes of permissions, and the records of a cell that one is added to.
+use Prim.Native.Nat.{ℕ, _≤_}
+use mathlib.Core.Path.{_≡_, refl, sym, ap}
+use mathlib.Core.Bool.{Bool, true, false, _||_}
 use native.Mathlib.Omega.{arith}
 use lib.Dec.{eqb}
-use borrow.Author.Tests.{eqb-true}
-use Rattle.rights.specs.Below.{allBelow}
+use borrow.Author.Tests.{eqb-true, eq-eqb}
 use Rattle.rights.specs.Permission.{Permission, TT, TF, FT, FF, code, anyPermission, isCode, decoded}
-use Rattle.rights.specs.Cell.{has, cellOf, union}
-use Rattle.wording.proofs.Truth.{never, and-left, and-right}
-use Rattle.wording.proofs.Register.{all-below}
-
-same-test : (a b : Bool) → Bool·beq a b ≡ true → a ≡ b
-same-test true true e = refl
-same-test true false e = never (cc)
-same-test false true e = never (cc)
-same-test false false e = refl
-
--- the test passes for either truth value
-abbrev either : (Bool → Bool) → Bool
-either f = f true && f false
-
-by-either : (f : Bool → Bool) (b : Bool) → either f ≡ true → f b ≡ true
-by-either f true e = and-left _ _ e
-by-either f false e = and-right (f true) _ e
-
--- the test passes for each permission
-abbrev each : (Permission → Bool) → Bool
-each f = f TT && (f TF && (f FT && f FF))
-
-by-each : (f : Permission → Bool) (p : Permission) → each f ≡ true → f p ≡ true
-by-each f TT e = and-left _ _ e
-by-each f TF e = and-left _ _ (and-right (f TT) _ e)
-by-each f FT e = and-left _ _ (and-right (f TF) _ (and-right (f TT) _ e))
-by-each f FF e = and-right (f FT) _ (and-right (f TF) _ (and-right (f TT) _ e))
-
-abbrev picked : Bool → Bool → Bool → Bool → Permission → Bool
-picked a b c d TT = a
-picked a b c d TF = b
-picked a b c d FT = c
-picked a b c d FF = d
-
-picked-is : (f : Permission → Bool) (p : Permission) → picked (f TT) (f TF) (f FT) (f FF) p ≡ f p
-picked-is f TT = refl
-picked-is f TF = refl
-picked-is f FT = refl
-picked-is f FF = refl
-
-abbrev of-four : Bool → Bool → Bool → Bool → Permission → Bool
-of-four a b c d p = Bool·beq (has (cond a 8 0 + cond b 4 0 + cond c 2 0 + cond d 1 0) p) (picked a b c d p)
-
-of-four-all : either (λ a. either (λ b. either (λ c. either (λ d. each (of-four a b c d))))) ≡ true
-unfolding has code
-of-four-all = refl
-
--- a cell has the records that it was made of
-pub has-cell-of : (f : Permission → Bool) (p : Permission) → has (cellOf f) p ≡ f p
-unfolding cellOf
-has-cell-of f p =
-    same-test _ _
-    (by-each (of-four (f TT) (f TF) (f FT) (f FF)) p
-    (by-either (λ d. each (of-four (f TT) (f TF) (f FT) d)) (f FF)
-    (by-either (λ c. either (λ d. each (of-four (f TT) (f TF) c d))) (f FT)
-    (by-either (λ b. either (λ c. either (λ d. each (of-four (f TT) b c d)))) (f TF)
-    (by-either (λ a. either (λ b. either (λ c. either (λ d. each (of-four a b c d))))) (f TT) of-four-all)))))
-    ∙ picked-is f p
+use Rattle.rights.specs.Cell.{has, union}
+use Rattle.theory.proofs.Tests.{same-test}
+use Rattle.theory.proofs.Cell.{has-cellOf, one-record}
+use Rattle.wording.proofs.Truth.{never}
 
 pub has-union : (a b : ℕ) (p : Permission) → has (union a b) p ≡ (has a p || has b p)
 unfolding union
-has-union a b p = has-cell-of (λ q. has a q || has b q) p
+has-union a b p = has-cellOf (λ q. has a q || has b q) p
 
-abbrev code-alone : Permission → Permission → Bool
-code-alone p q = Bool·beq (has (code p) q) (eqb (code q) (code p))
-
-code-alone-all : each (λ p. each (code-alone p)) ≡ true
+has-itself : (p : Permission) → has (code p) p ≡ true
 unfolding has code
-code-alone-all = refl
+has-itself TT = refl
+has-itself TF = refl
+has-itself FT = refl
+has-itself FF = refl
 
 -- a code is the cell of its permission alone
 pub has-code : (p q : Permission) → has (code p) q ≡ eqb (code q) (code p)
-has-code p q = same-test _ _ (by-each (code-alone p) q (by-each (λ r. each (code-alone r)) p code-alone-all))
+has-code p q =
+    same-test (has (code p) q) (eqb (code q) (code p)) (λ e. eq-eqb (code q) (code p) (ap code (one-record p q e)))
+    (λ e. rw (← (eqb-true (code q) (code p) e)) (has-itself q))
 
 pub has-zero : (p : Permission) → has 0 p ≡ false
 unfolding has code
@@ -87,32 +34,6 @@ has-zero TT = refl
 has-zero TF = refl
 has-zero FT = refl
 has-zero FF = refl
-
-abbrev made-of : ℕ → Bool
-made-of c = eqb (cellOf (has c)) c
-
-made-of-all : allBelow 16 made-of ≡ true
-unfolding allBelow cellOf has code
-made-of-all = refl
-
--- a cell of at most 15 is made of the records that it has
-pub cell-of-has : (c : ℕ) → c ≤ 15 → cellOf (has c) ≡ c
-cell-of-has c h = eqb-true (cellOf (has c)) c (all-below 16 made-of c made-of-all (omega arith))
-
-cond-small : (b : Bool) (k : ℕ) → cond b k 0 ≤ k
-cond-small true k = omega arith
-cond-small false k = omega arith
-
-pub cell-of-small : (f : Permission → Bool) → cellOf f ≤ 15
-unfolding cellOf
-cell-of-small f = omega (arith, cond-small (f TT) 8, cond-small (f TF) 4, cond-small (f FT) 2, cond-small (f FF) 1)
-
--- cells of at most 15 with the same records are the same
-pub same-records : (a b : ℕ) → a ≤ 15 → b ≤ 15 → ((p : Permission) → has a p ≡ has b p) → a ≡ b
-unfolding cellOf
-same-records a b ha hb same =
-    let eq : cellOf (has a) ≡ cellOf (has b) = rw (same TT, same TF, same FT, same FF) in
-    sym (cell-of-has a ha) ∙ eq ∙ cell-of-has b hb
 
 -- a code stands for a permission
 pub code-decoded : (k : ℕ) → isCode k ≡ true → code (decoded k) ≡ k

@@ -13,7 +13,7 @@ use Rattle.rights.specs.Permission.{Permission, TT, TF, FT, FF, code}
 use Rattle.rights.specs.Cell.{has}
 use Rattle.rights.specs.Register.{cell}
 use Rattle.wording.specs.Records.{Record, joined, recordOf, cellRecords, rowRecords}
-use Rattle.wording.proofs.Register.{any-at}
+use Rattle.wording.proofs.Below.{any-at}
 use Rattle.wording.proofs.Cell.{code-is-code}
 use Rattle.wording.proofs.Order.{rank, Ascending, none, more, ascending-append, stands, stands-append}
 

@@ -14,8 +14,9 @@ use Rattle.rights.specs.Restriction.{isCell}
 use Rattle.rights.specs.Deletion.{grantedCell, granted}
 use Rattle.wording.specs.Records.{Record}
 use Rattle.wording.specs.RegisterReader.{nothing, added, filled}
-use Rattle.wording.proofs.Register.{length-register, cell-register, same-cells}
-use Rattle.wording.proofs.Cell.{has-union, has-code, has-zero, cell-of-small, same-records, code-decoded}
+use Rattle.theory.proofs.Register.{length-register, cell-register, same-cells}
+use Rattle.theory.proofs.Cell.{cellOf-small, cell-ext}
+use Rattle.wording.proofs.Cell.{has-union, has-code, has-zero, code-decoded}
 use Rattle.wording.proofs.Order.{Ascending, none, more, isRecord, stands, same-list}
 use Rattle.wording.proofs.CellRecords.{allRecords, all-ascending, stands-all}
 
@@ -53,7 +54,7 @@ module _ (h : Header) where
       rw (cell-register h (λ x y. cond (eqb x i && eqb y j) (union (cell h R x y) (code p)) (cell h R x y)) x y hx hy) (go (eqb x i && eqb y j))
     where
       go : (t : Bool) → cond t (union (cell h R x y) (code p)) (cell h R x y) ≤ 15
-      go true = cell-of-small _
+      go true = cellOf-small _
       go false = small
 
   small-added : (rs : List Record) (R : List ℕ) (x y : ℕ) → x < h .n → y < h .n → cell h R x y ≤ 15 → cell h (added h R rs) x y ≤ 15
@@ -91,5 +92,5 @@ module _ (h : Header) where
       (R : List ℕ) → h .n ≤ 65536 → length R ≡ h .n * h .n → ((i j : ℕ) → i < h .n → j < h .n → cell h R i j ≤ 15) → filled h (allRecords h R) ≡ R
   filled-all R small whole each =
       same-cells h (filled h (allRecords h R)) R (length-filled (allRecords h R)) whole
-      (λ i j hi hj. same-records _ _ (small-filled (allRecords h R) i j hi hj) (each i j hi hj)
+      (λ i j hi hj. cell-ext _ _ (small-filled (allRecords h R) i j hi hj) (each i j hi hj)
       (λ q. has-filled i j q hi hj (all-ascending h R small) ∙ stands-all h R i j q hi hj))

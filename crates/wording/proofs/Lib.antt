@@ -4,7 +4,7 @@ pub mod Number
 pub mod Line
 pub mod Lines
 pub mod CommandText
-pub mod Register
+pub mod Below
 pub mod Cell
 pub mod Order
 pub mod CellRecords

@@ -5,7 +5,8 @@ use mathlib.Core.Bool.{Bool, true, false, _&&_, _||_, not, cond}
 use mathlib.Core.List.{List, [], _∷_, _++_, append-assoc}
 use lib.Dec.{eqb}
 use borrow.Author.Tests.{eqb-true, eq-eqb, le-leb, leb-true}
-use Rattle.wording.proofs.Truth.{never, and-left, and-right}
+use Rattle.theory.proofs.Tests.{left-of, right-of}
+use Rattle.wording.proofs.Truth.{never}
 use Rattle.wording.proofs.Number.{number-read, number-written}
 use Rattle.wording.specs.Word.{lf, Choice, Kind, nLine, soaLine, layerLine, actLine, byLine, toLine, permLine, key, Form, decimal, oneOf, form, acts, perms, wordFor, worded}
 use Rattle.wording.specs.Line.{After, after, otherwise, afterWord, Line, value, number, chosen, valueOf, behindKey, lineOf, wordOf, lineText, fits}
@@ -48,7 +49,7 @@ chosen-read : (cs : List Choice) (text : List ℕ) (v : ℕ) (rest : List ℕ) �
 unfolding chosen distinct wordFor worded
 chosen-read [] text v rest d e = never (cc)
 chosen-read (c ∷ cs) text v rest d e =
-    go (chosen-read cs text v rest (and-right (not (worded cs (c .number))) _ d)) (afterWord (c .word ++ (lf ∷ [])) text) refl e
+    go (chosen-read cs text v rest (right-of (not (worded cs (c .number))) _ d)) (afterWord (c .word ++ (lf ∷ [])) text) refl e
   where
     go : (chosen cs text ≡ value v rest → WordRead cs text v rest) → (a : After) → afterWord (c .word ++ (lf ∷ [])) text ≡ a →
         elim a as (λ _. Line) [ after r ↦ value (c .number) r | otherwise ↦ chosen cs text ] ≡ value v rest → WordRead (c ∷ cs) text v rest
@@ -62,7 +63,7 @@ chosen-read (c ∷ cs) text v rest d e =
         other : WordRead cs text v rest → (t : Bool) → eqb v (c .number) ≡ t → WordRead (c ∷ cs) text v rest
         other r true t =
             let s : worded cs (c .number) ≡ true = ap (worded cs) (sym (eqb-true v (c .number) t)) ∙ r .fit in
-            let n : not (worded cs (c .number)) ≡ true = and-left _ _ d in
+            let n : not (worded cs (c .number)) ≡ true = left-of _ _ d in
             let z : not true ≡ true = rw s at n in
             never (cc)
         other r false t = record { written = rw t (r .written); fit = rw t (r .fit) }

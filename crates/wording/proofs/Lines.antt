@@ -6,7 +6,8 @@ use mathlib.Core.List.{List, [], _∷_, _++_, append-assoc}
 use native.Mathlib.Omega.{arith}
 use lib.ListN.{length, drop, length-append, length-drop}
 use lib.Seq.{drop-at, drop-drop, drop-append-seam}
-use Rattle.wording.proofs.Truth.{never, and-left, and-right}
+use Rattle.theory.proofs.Tests.{left-of, right-of}
+use Rattle.wording.proofs.Truth.{never}
 use Rattle.wording.proofs.Line.{line-read, line-written}
 use Rattle.wording.specs.Word.{Kind, form}
 use Rattle.wording.specs.Line.{Line, value, bad, lineOf, fits}
@@ -69,8 +70,8 @@ lines-written [] [] rest e = refl
 lines-written [] (v ∷ vs) rest e = never (cc)
 lines-written (k ∷ kinds) [] rest e = never (cc)
 lines-written (k ∷ kinds) (v ∷ vs) rest e =
-    let ih = lines-written kinds vs rest (and-right (fits (form k) v) _ e) in
-    let l = line-written k v (linesText kinds vs ++ rest) (and-left _ _ e) in
+    let ih = lines-written kinds vs rest (right-of (fits (form k) v) _ e) in
+    let l = line-written k v (linesText kinds vs ++ rest) (left-of _ _ e) in
     rw (append-assoc, l, linesOf) (rw ih)
 
 pub fit-length : (kinds : List Kind) (vs : List ℕ) → allFit kinds vs ≡ true → length vs ≡ length kinds
@@ -78,4 +79,4 @@ unfolding allFit
 fit-length [] [] e = refl
 fit-length [] (v ∷ vs) e = never (cc)
 fit-length (k ∷ kinds) [] e = never (cc)
-fit-length (k ∷ kinds) (v ∷ vs) e = ap suc (fit-length kinds vs (and-right (fits (form k) v) _ e))
+fit-length (k ∷ kinds) (v ∷ vs) e = ap suc (fit-length kinds vs (right-of (fits (form k) v) _ e))

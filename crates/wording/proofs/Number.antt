@@ -6,7 +6,8 @@ use mathlib.Core.List.{List, [], _∷_, _++_, append-assoc}
 use native.Mathlib.Omega.{arith}
 use lib.Dec.{eqb, ltb, leb}
 use borrow.Author.Tests.{eqb-true, ltb-true, ltb-false, leb-true, ne-eqb, le-leb, lt-ltb, le-ltb}
-use Rattle.wording.proofs.Truth.{never, and-left, and-right}
+use Rattle.theory.proofs.Tests.{left-of, right-of}
+use Rattle.wording.proofs.Truth.{never}
 use Rattle.wording.specs.Word.{lf}
 use Rattle.wording.specs.Line.{value, bad, isDigit, extended, goesOn, digits, number, numeralBy, numeral}
 
@@ -59,15 +60,15 @@ pub record GoesOn (v b : ℕ) : Type 0 where
   pub started : 1 ≤ v
   pub small : extended v b ≤ 65535
 
-goes-on : (v b : ℕ) → goesOn v b ≡ true → GoesOn v b
+pub goes-on : (v b : ℕ) → goesOn v b ≡ true → GoesOn v b
 unfolding goesOn isDigit
 goes-on v b e =
-    let digit = and-left _ _ (and-left _ _ e) in
+    let digit = left-of _ _ (left-of _ _ e) in
     record {
-      low = leb-true 48 b (and-left _ _ digit);
-      high = leb-true b 57 (and-right (leb 48 b) _ digit);
-      started = leb-true 1 v (and-right (leb 48 b && leb b 57) _ (and-left _ _ e));
-      small = leb-true (extended v b) 65535 (and-right (leb 48 b && leb b 57 && leb 1 v) _ e);
+      low = leb-true 48 b (left-of _ _ digit);
+      high = leb-true b 57 (right-of (leb 48 b) _ digit);
+      started = leb-true 1 v (right-of (leb 48 b && leb b 57) _ (left-of _ _ e));
+      small = leb-true (extended v b) 65535 (right-of (leb 48 b && leb b 57 && leb 1 v) _ e);
     }
 
 -- the reader of digits, byte by byte: a digit that goes on, a byte that does not, and LF
@@ -118,8 +119,8 @@ number-read (b ∷ text) w rest e = go (isDigit b) refl
   where
     go : (t : Bool) → isDigit b ≡ t → NumberRead (b ∷ text) w rest
     go true q =
-        let low = leb-true 48 b (and-left _ _ q) in
-        let high = leb-true b 57 (and-right (leb 48 b) _ q) in
+        let low = leb-true 48 b (left-of _ _ q) in
+        let high = leb-true b 57 (right-of (leb 48 b) _ q) in
         let s = digits-read text (b - 48) w rest (cc) in
         let one : 48 + (b - 48) ≡ b = omega arith in
         let whole : numeral (b - 48) ++ text ≡ b ∷ text = rw (numeral-digit (b - 48) (omega arith), one) in

@@ -9,7 +9,8 @@ use lib.Dec.{eqb}
 use borrow.Author.Tests.{eqb-true, eq-eqb}
 use Rattle.rights.specs.Permission.{Permission, code, isCode, decoded}
 use Rattle.wording.specs.Records.{Record}
-use Rattle.wording.proofs.Truth.{never, and-left, and-right}
+use Rattle.theory.proofs.Tests.{left-of, right-of}
+use Rattle.wording.proofs.Truth.{never}
 use Rattle.wording.proofs.Cell.{code-decoded}
 
 -- records in the order of the text have ascending ranks, as long as offices are below 65536
@@ -58,9 +59,9 @@ is-itself r = rw (eq-eqb (r .by) (r .by) refl, eq-eqb (r .to) (r .to) refl, eq-e
 
 is-same : (r s : Record) → isRecord r (s .by) (s .to) (s .perm) ≡ true → s ≡ r
 is-same r s e =
-    let b = eqb-true (s .by) (r .by) (and-left _ _ e) in
-    let t = eqb-true (s .to) (r .to) (and-left _ _ (and-right (eqb (s .by) (r .by)) _ e)) in
-    let p = eqb-true (s .perm) (r .perm) (and-right (eqb (s .to) (r .to)) _ (and-right (eqb (s .by) (r .by)) _ e)) in
+    let b = eqb-true (s .by) (r .by) (left-of _ _ e) in
+    let t = eqb-true (s .to) (r .to) (left-of _ _ (right-of (eqb (s .by) (r .by)) _ e)) in
+    let p = eqb-true (s .perm) (r .perm) (right-of (eqb (s .to) (r .to)) _ (right-of (eqb (s .by) (r .by)) _ e)) in
     λ i. record { by = b i; to = t i; perm = p i }
 
 -- what stands in a list has a rank that the list begins at or below

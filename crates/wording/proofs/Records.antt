@@ -12,7 +12,8 @@ use Rattle.wording.specs.Word.{key, form, byLine, toLine, permLine, endT
 use Rattle.wording.specs.Line.{After, after, otherwise, afterWord, Line, value, bad, lineOf, lineText, fits}
 use Rattle.wording.specs.Lines.{Reading, got, badAt, andBefore}
 use Rattle.wording.specs.Records.{Record, first, recordText, recordsText, byMay, toMay, permMay, withPerm, withTo, withBy, recordFrom, recordsFrom}
-use Rattle.wording.proofs.Truth.{never, and-left, and-right}
+use Rattle.theory.proofs.Tests.{left-of, right-of}
+use Rattle.wording.proofs.Truth.{never}
 use Rattle.wording.proofs.Line.{after-word-read, after-word-written, line-read, line-written}
 use Rattle.wording.proofs.Lines.{got-before}
 use Rattle.wording.proofs.Cell.{code-decoded, is-code-small}
@@ -40,7 +41,7 @@ rank-above :
     (last : Record) (i j p : ℕ) → Before last → p ≤ 8 → byMay last i ≡ true → toMay last i j ≡ true → permMay last i j p ≡ true →
     rankOf last < rank i j p
 unfolding byMay toMay permMay
-rank-above last i j p f small b t q = go (ltb (last .by) i) refl t (ltb (last .to) j) refl (and-right (leb 1 p) _ q)
+rank-above last i j p f small b t q = go (ltb (last .by) i) refl t (ltb (last .to) j) refl (right-of (leb 1 p) _ q)
   where
     go : (x : Bool) → ltb (last .by) i ≡ x → (x || leb (last .to) j) ≡ true → (y : Bool) → ltb (last .to) j ≡ y →
         (x || y || ltb p (last .perm)) ≡ true → rankOf last < rank i j p
@@ -135,7 +136,7 @@ record-read last text r rest f e =
     let bl = line-read byLine text (b .0) (b .1) (b .2) in
     let tl = line-read toLine (b .1) (t .0) (t .1) (t .2) in
     let pl = line-read permLine (t .1) (p .0) rest (p .1) in
-    let coded = code-worded (p .0) (pl .fit) (leb-true 1 (p .0) (and-left _ _ (p .2))) in
+    let coded = code-worded (p .0) (pl .fit) (leb-true 1 (p .0) (left-of _ _ (p .2))) in
     let small = is-code-small (p .0) coded in
     let bs = leb-true (b .0) 65535 (bl .fit) in
     let ts = leb-true (t .0) 65535 (tl .fit) in

@@ -1,0 +1,63 @@
+-- Reading on by one byte, at a place in the text. Assumes nothing.
+use Prim.Native.Nat.{ℕ, _+_, _-_, _≤_, _<_}
+use mathlib.Core.Path.{_≡_, refl, sym, _∙_}
+use mathlib.Core.List.{List, _∷_}
+use native.Mathlib.Numerals.{add-one}
+use native.Mathlib.Omega.{arith}
+use lib.ListN.{length, getD, drop, length-drop, drop-of-length-le}
+use lib.Seq.{drop-cons}
+use borrow.Author.Tests.{eq-eqb, ne-eqb}
+use Rattle.wording.specs.Line.{afterWord}
+use Rattle.wording.specs.Lines.{offset}
+use Rattle.wording.proofs.Line.{after-word-more, after-word-stop}
+use Rattle.lines.specs.Read.{wordRead}
+use Rattle.lines.specs.declared.WordRead.the-variants.{Next, Other}
+
+-- what stands from the byte `at` on is found there again
+pub offset-drop : (text : List ℕ) (at : ℕ) → at ≤ length text → offset text (drop at text) ≡ at
+unfolding offset
+offset-drop text at h = rw length-drop (omega arith)
+
+-- from a byte on: it, and what stands behind it
+pub from-byte : (l : List ℕ) (k : ℕ) → k < length l → drop k l ≡ getD l k 0 ∷ drop (k + 1) l
+from-byte l k h = rw (add-one, drop-cons l k 0)
+
+-- k bytes of the word have been read: what is left of it gives what the whole word gives
+pub record WordSoFar (text : List ℕ) (at : ℕ) (bytes : List ℕ) (k : ℕ) : Type 0 where
+  pub passed : k ≤ length bytes
+  pub within : at + k ≤ length text
+  pub left : afterWord (drop k bytes) (drop (at + k) text) ≡ afterWord bytes (drop at text)
+
+pub word-start : (text : List ℕ) (at : ℕ) (bytes : List ℕ) → at ≤ length text → WordSoFar text at bytes 0
+word-start text at bytes h = record { passed = omega arith; within = omega arith; left = let e : at + 0 ≡ at = omega arith in rw e refl }
+
+module _ {text : List ℕ} {at : ℕ} {bytes : List ℕ} {k : ℕ} (s : WordSoFar text at bytes k) where
+  -- the byte of the word
+  pub word-more : k < length bytes → at + k < length text → getD text (at + k) 0 ≡ getD bytes k 0 → WordSoFar text at bytes (k + 1)
+  word-more hk ht e =
+      let next : at + k + 1 ≡ at + (k + 1) = omega arith in
+      record {
+        passed = omega arith;
+        within = omega arith;
+        left =
+            sym
+            (rw (from-byte bytes k hk, from-byte text (at + k) ht, next)
+            (after-word-more _ _ (drop (k + 1) bytes) (drop (at + (k + 1)) text) (eq-eqb _ _ e)))
+            ∙ s .left;
+      }
+
+  -- another byte
+  pub word-stop : k < length bytes → at + k < length text → (getD text (at + k) 0 ≡ getD bytes k 0 → ⊥) → Other ≡ wordRead text (afterWord bytes (drop at text))
+  unfolding wordRead
+  word-stop hk ht e =
+      rw (← (s .left), from-byte bytes k hk, from-byte text (at + k) ht, after-word-stop _ _ (drop (k + 1) bytes) (drop (at + k + 1) text) (ne-eqb _ _ e)) refl
+
+  -- no byte
+  pub word-short : k < length bytes → length text - at ≤ k → Other ≡ wordRead text (afterWord bytes (drop at text))
+  unfolding wordRead afterWord
+  word-short hk ht = rw (← (s .left), from-byte bytes k hk, drop-of-length-le text {i = at + k} (omega arith)) refl
+
+  -- all of the word
+  pub word-end : length bytes ≤ k → Next (at + k) ≡ wordRead text (afterWord bytes (drop at text))
+  unfolding wordRead afterWord
+  word-end hk = rw (← (s .left), drop-of-length-le bytes {i = k} hk, offset-drop text (at + k) (s .within)) refl

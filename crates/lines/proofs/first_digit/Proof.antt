@@ -1,0 +1,15 @@
+-- `lines::first_digit` meets its contract: a digit is at least 48. Assumes nothing.
+use native.Mathlib.Omega.{arith}
+use borrow.Author.Needs.{needs}
+use Rattle.lines.proofs.Digits.{is-a-digit}
+use Rattle.lines.proofs.first_digit.Statement.{statement}
+use Rattle.lines.proofs.first_digit.Tie as tie
+
+sub-result : tie.Need-sub-result
+sub-result c = let d = is-a-digit _ (c .pre) in omega arith
+
+returns : tie.Need-returns
+returns c = search needs
+
+pub first-digit-spec : {M : Type 1} → statement M
+first-digit-spec = tie.close (tie.spec sub-result returns)

@@ -1,0 +1,2 @@
+-- What the line readers answer, by the definitions of the text.
+pub mod Read

@@ -1,0 +1,2 @@
+-- What the readers answer and leave, by the definitions of the text.
+pub mod Told

@@ -1,0 +1,80 @@
+-- What the readers answer and leave: each answer by the one outcome that the definitions of the text give.
+use Prim.Native.Nat.{ℕ, _+_, _*_, min}
+use mathlib.Core.Path.{_≡_}
+use mathlib.Core.Bool.{Bool, not, cond}
+use mathlib.Core.List.{List}
+use lib.Dec.{ltb}
+use lib.ListN.{length, take, drop}
+use Rattle.rights.specs.declared.Header.{Header}
+use Rattle.rights.specs.Sound.{headed, sound}
+use Rattle.wording.specs.Lines.{Reading, got, badAt, offset, linesOf, headerLines, headerOf}
+use Rattle.wording.specs.Records.{first, recordsFrom}
+use Rattle.wording.specs.RegisterReader.{RegisterRead as Outcome, noHeader, withHeader, judged}
+use Rattle.wording.specs.CommandReader.{CommandRead as CommandOutcome, noCommand, commandRead}
+use Rattle.readers.specs.declared.HeaderRead.{HeaderRead}
+use Rattle.readers.specs.declared.HeaderRead.the-variants.{Got, BadAt}
+use Rattle.readers.specs.declared.CommandRead.{CommandRead}
+use Rattle.readers.specs.declared.RegisterRead.{RegisterRead}
+
+-- the header and where in the text the next line starts, or where the bad line starts
+unfoldable pub headerRead : List ℕ → Reading (List ℕ) → HeaderRead
+headerRead text (got vs rest) = Got (headerOf vs) (offset text rest)
+headerRead text (badAt line) = BadAt (offset text line)
+
+unfoldable pub headerIn : List ℕ → HeaderRead
+headerIn text = headerRead text (linesOf headerLines text)
+
+-- an outcome of the command reader, but for the rest
+unfoldable pub commandAnswer : CommandOutcome → CommandRead
+commandAnswer o = record { answer = o .answer; at = o .at; command = o .command; next = o .next }
+
+unfoldable pub commandTold : List ℕ → CommandRead
+commandTold text = commandAnswer (commandRead text)
+
+-- a refused command: 13, where the bad line starts, a command of zeros, and the text's end
+unfoldable pub commandRefused : ℕ → ℕ → CommandRead
+commandRefused at end = record { answer = 13; at = at; command = noCommand; next = end }
+
+-- an outcome of the register reader, but for the buffer and the rest
+unfoldable pub registerAnswer : Outcome → RegisterRead
+registerAnswer o = record { answer = o .answer; at = o .at; header = o .header; next = o .next }
+
+-- a refused register: the number, where the bad line starts, a header of zeros, and the text's end
+unfoldable pub registerNot : ℕ → ℕ → ℕ → RegisterRead
+registerNot number at end = record { answer = number; at = at; header = noHeader; next = end }
+
+-- the answer and the buffer are those of the outcome
+pub record RegisterTold (o : Outcome) (r : RegisterRead) (cells : List ℕ) : Type 0 where
+  pub answer : r ≡ registerAnswer o
+  pub buffer : cells ≡ o .buffer
+
+-- 'checks 13, 1, 2, 6, 7, 3', what follows 13, of the buffer with the records and what was found of them; 0 where none applies
+unfoldable pub refusalOf : Header → List ℕ → Bool → Bool → ℕ
+refusalOf h cells out barred =
+    cond (not (headed h)) 1
+    (cond (ltb (length cells) (h .n * h .n)) 2
+    (cond out 6
+    (cond barred 7
+    (cond (not (sound h (take (h .n * h .n) cells))) 3 0))))
+
+-- the outcome behind a header, with the records from the byte `at` on
+unfoldable pub behindHeaderAt : List ℕ → List ℕ → Header → ℕ → Outcome
+behindHeaderAt text buffer h at = judged text buffer (withHeader h (recordsFrom (length (drop at text)) first (drop at text)))
+
+-- the rest is the caller's own text from the byte `next` on, and the empty part at its end where the text is shorter
+pub record RestTold (start : ℕ × ℕ) (text : List ℕ) (next : ℕ) (there : ℕ × ℕ) (rest : List ℕ) : Type 0 where
+  pub bytes : rest ≡ drop next text
+  pub same-text : there .0 ≡ start .0
+  pub place : there .1 ≡ start .1 + min next (length text)
+
+-- the rest of an outcome, in the caller's own text, and the buffer
+pub record RegisterRest (start : ℕ × ℕ) (o : Outcome) (there : ℕ × ℕ) (rest cells : List ℕ) : Type 0 where
+  pub bytes : rest ≡ o .rest
+  pub same-text : there .0 ≡ start .0
+  pub place : there .1 ≡ start .1 + o .next
+  pub buffer : cells ≡ o .buffer
+
+pub record CommandRest (start : ℕ × ℕ) (o : CommandOutcome) (there : ℕ × ℕ) (rest : List ℕ) : Type 0 where
+  pub bytes : rest ≡ o .rest
+  pub same-text : there .0 ≡ start .0
+  pub place : there .1 ≡ start .1 + o .next

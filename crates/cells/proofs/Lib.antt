@@ -1,0 +1,4 @@
+-- What the proofs of several functions share.
+pub mod Byte
+pub mod Place
+pub mod Unique

@@ -1,0 +1,76 @@
+// The texts that are made of lines, written into a room that is lent: each is measured first, so that a room that is too small
+// is left as it was.
+use rights::Header;
+use rights::Office;
+ghost use mathlib.Core.Path.{_≡_};
+ghost use mathlib.Core.List.{[], _∷_};
+ghost use Prim.Native.Nat.{_+_, _≤_};
+ghost use lib.ListN.{length};
+ghost use Rattle.wording.specs.Line.{numeral};
+ghost use Rattle.printing.specs.Put.{Room, Put};
+ghost use Rattle.printing.specs.Answers.{numberLine};
+
+// What a writer answers: 0 or the refusal, and the length of what it wrote.
+pub struct Written {
+    pub answer: u8,
+    pub size: usize,
+}
+
+// How many digits a number has in decimal.
+fn digits(v: u32) -> usize
+    ensures value { λ r. ⌜ r ≡ length (numeral v) ⌝ }
+    ensures few { λ r. ⌜ r ≤ v + 1 ⌝ }
+{
+    let mut count = 1;
+    let mut rest = v;
+    while 10 <= rest {
+        rest /= 10;
+        count += 1;
+    }
+    count
+}
+
+// Writes a byte, and gives the place behind it.
+fn put_byte(room: &mut [u8], at: usize, b: u8) -> usize
+    requires { ⌜ Room (b ∷ []) (now room) at ⌝ }
+    ensures { λ r. ⌜ Put (b ∷ []) (now (room .entry)) at (now (room .exit)) r ⌝ }
+{
+    room[at] = b;
+    at + 1
+}
+
+// Writes bytes from a place on.
+fn put_bytes(room: &mut [u8], at: usize, text: &[u8]) -> usize
+    requires { ⌜ Room (now text) (now room) at ⌝ }
+    ensures { λ r. ⌜ Put (now (text .entry)) (now (room .entry)) at (now (room .exit)) r ⌝ }
+{
+    let mut next = at;
+    let mut k = 0;
+    while k < text.len() {
+        next = put_byte(room, next, text[k]);
+        k += 1;
+    }
+    next
+}
+
+// Writes a number in decimal: its last digit stands behind the others.
+fn put_number(room: &mut [u8], at: usize, v: u32) -> usize
+    requires { ⌜ Room (numeral v) (now room) at ⌝ }
+    ensures { λ r. ⌜ Put (numeral v) (now (room .entry)) at (now (room .exit)) r ⌝ }
+{
+    if v < 10 {
+        return put_byte(room, at, 48 + v as u8);
+    }
+    let next = put_number(room, at, v / 10);
+    put_byte(room, next, 48 + (v % 10) as u8)
+}
+
+// Writes a line: its key, a number, LF.
+fn put_line(room: &mut [u8], at: usize, key: &[u8], v: u32) -> usize
+    requires { ⌜ Room (numberLine (now key) v) (now room) at ⌝ }
+    ensures { λ r. ⌜ Put (numberLine (now (key .entry)) v) (now (room .entry)) at (now (room .exit)) r ⌝ }
+{
+    let behind_key = put_bytes(room, at, key);
+    let behind_number = put_number(room, behind_key, v);
+    put_byte(room, behind_number, 10)
+}

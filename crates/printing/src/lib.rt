@@ -6,7 +6,11 @@ ghost use mathlib.Core.Path.{_≡_};
 ghost use mathlib.Core.List.{[], _∷_};
 ghost use Prim.Native.Nat.{_+_, _≤_};
 ghost use lib.ListN.{length};
-ghost use Rattle.wording.specs.Line.{numeral};
+ghost use Rattle.rights.specs.Permission.{code, decoded};
+ghost use Rattle.wording.specs.Word.{permLine};
+ghost use Rattle.wording.specs.Line.{numeral, lineText};
+ghost use Rattle.wording.specs.Writer.{writtenBehind, headerWritten, endWritten};
+ghost use Rattle.printing.specs.Told.{Told};
 ghost use Rattle.printing.specs.Put.{Room, Put};
 ghost use Rattle.printing.specs.Answers.{numberLine};
 
@@ -73,4 +77,49 @@ fn put_line(room: &mut [u8], at: usize, key: &[u8], v: u32) -> usize
     let behind_key = put_bytes(room, at, key);
     let behind_number = put_number(room, behind_key, v);
     put_byte(room, behind_number, 10)
+}
+
+// How long a line is.
+fn line_size(key: &[u8], v: u32) -> usize
+    ensures value { λ r. ⌜ r ≡ length (numberLine (now (key .entry)) v) ⌝ }
+    ensures few { λ r. ⌜ r ≤ length (now (key .entry)) + v + 2 ⌝ }
+{
+    key.len() + digits(v) + 1
+}
+
+// Writes bytes, if there is room for them.
+fn write_bytes(text: &[u8], room: &mut [u8]) -> Written
+    ensures { λ r. ⌜ Told (writtenBehind 0 (now (room .entry)) (now (text .entry))) r (now (room .exit)) ⌝ }
+{
+    if room.len() < text.len() {
+        return Written {
+            answer: 14,
+            size: 0,
+        };
+    }
+    let size = put_bytes(room, 0, text);
+    Written { answer: 0, size }
+}
+
+// The line of a record's permission.
+fn perm_line(perm: u8) -> [u8; 8]
+    ensures { λ r. ⌜ r ≡ lineText permLine (code (decoded perm)) ⌝ }
+{
+    if perm == 8 {
+        return *b"perm=TT\n";
+    }
+    if perm == 4 {
+        return *b"perm=TF\n";
+    }
+    if perm == 2 {
+        return *b"perm=FT\n";
+    }
+    *b"perm=FF\n"
+}
+
+// 'Header and end line have writers too, by the same rule (1 and 14; 14).'
+pub fn write_end(room: &mut [u8]) -> Written
+    ensures { λ r. ⌜ Told (endWritten (now (room .entry))) r (now (room .exit)) ⌝ }
+{
+    write_bytes(b"end=register\n", room)
 }

@@ -1,18 +1,14 @@
 // The texts that are made of lines, written into a room that is lent: each is measured first, so that a room that is too small
 // is left as it was.
-use rights::Header;
-use rights::Office;
 ghost use mathlib.Core.Path.{_≡_};
 ghost use mathlib.Core.List.{[], _∷_, _++_};
 ghost use Prim.Native.Nat.{_+_, _≤_};
 ghost use lib.ListN.{length};
-ghost use Rattle.rights.specs.Permission.{code, decoded};
-ghost use Rattle.wording.specs.Word.{permLine};
-ghost use Rattle.wording.specs.Line.{numeral, lineText};
-ghost use Rattle.wording.specs.Writer.{writtenBehind, headerWritten, endWritten};
+ghost use Rattle.wording.specs.Line.{numeral};
+ghost use Rattle.wording.specs.Writer.{writtenBehind};
 ghost use Rattle.printing.specs.Told.{Told};
 ghost use Rattle.printing.specs.Put.{Room, Put};
-ghost use Rattle.printing.specs.Answers.{numberLine, answerWritten, refusedWritten};
+ghost use Rattle.printing.specs.NumberLine.{numberLine};
 
 // What a writer answers: 0 or the refusal, and the length of what it wrote.
 pub struct Written {
@@ -21,7 +17,7 @@ pub struct Written {
 }
 
 // How many digits a number has in decimal.
-fn digits(v: u32) -> usize
+pub fn digits(v: u32) -> usize
     ensures value { λ r. ⌜ r ≡ length (numeral v) ⌝ }
     ensures few { λ r. ⌜ r ≤ v + 1 ⌝ }
 {
@@ -88,7 +84,7 @@ fn line_size(key: &[u8], v: u32) -> usize
 }
 
 // Writes bytes, if there is room for them.
-fn write_bytes(text: &[u8], room: &mut [u8]) -> Written
+pub fn write_bytes(text: &[u8], room: &mut [u8]) -> Written
     ensures { λ r. ⌜ Told (writtenBehind 0 (now (room .entry)) (now (text .entry))) r (now (room .exit)) ⌝ }
 {
     if room.len() < text.len() {
@@ -101,93 +97,55 @@ fn write_bytes(text: &[u8], room: &mut [u8]) -> Written
     Written { answer: 0, size }
 }
 
-// The line of a record's permission.
-fn perm_line(perm: u8) -> [u8; 8]
-    ensures { λ r. ⌜ r ≡ lineText permLine (code (decoded perm)) ⌝ }
-{
-    if perm == 8 {
-        return *b"perm=TT\n";
-    }
-    if perm == 4 {
-        return *b"perm=TF\n";
-    }
-    if perm == 2 {
-        return *b"perm=FT\n";
-    }
-    *b"perm=FF\n"
-}
-
-// 'Header and end line have writers too, by the same rule (1 and 14; 14).'
-pub fn write_end(room: &mut [u8]) -> Written
-    ensures { λ r. ⌜ Told (endWritten (now (room .entry))) r (now (room .exit)) ⌝ }
-{
-    write_bytes(b"end=register\n", room)
-}
-
-// Writes two lines, if there is room for them.
-fn write_two(a: &[u8], x: u32, b: &[u8], y: u32, room: &mut [u8]) -> Written
-    requires { ⌜ length (now a) + length (now b) ≤ 64 ⌝ }
+// Writes two lines, if there is room for them. Each is measured by what the others leave, since the sum of the lengths of slices
+// need not be a length.
+pub fn write_two(a: &[u8], x: u32, b: &[u8], y: u32, room: &mut [u8]) -> Written
     ensures { λ r. ⌜ Told (writtenBehind 0 (now (room .entry)) (numberLine (now (a .entry)) x ++ numberLine (now (b .entry)) y)) r (now (room .exit)) ⌝ }
 {
-    if room.len() < line_size(a, x) + line_size(b, y) {
+    let first = line_size(a, x);
+    if room.len() < first {
         return Written {
             answer: 14,
             size: 0,
         };
     }
-    let second = put_line(room, 0, a, x);
-    let size = put_line(room, second, b, y);
+    if room.len() - first < line_size(b, y) {
+        return Written {
+            answer: 14,
+            size: 0,
+        };
+    }
+    let behind_first = put_line(room, 0, a, x);
+    let size = put_line(room, behind_first, b, y);
     Written { answer: 0, size }
 }
 
 // Writes three lines, if there is room for them.
-fn write_three(a: &[u8], x: u32, b: &[u8], y: u32, c: &[u8], z: u32, room: &mut [u8]) -> Written
-    requires { ⌜ length (now a) + length (now b) + length (now c) ≤ 64 ⌝ }
+pub fn write_three(a: &[u8], x: u32, b: &[u8], y: u32, c: &[u8], z: u32, room: &mut [u8]) -> Written
     ensures { λ r. ⌜ Told (writtenBehind 0 (now (room .entry)) (numberLine (now (a .entry)) x ++ (numberLine (now (b .entry)) y ++ numberLine (now (c .entry)) z))) r (now (room .exit)) ⌝ }
 {
-    if room.len() < line_size(a, x) + line_size(b, y) + line_size(c, z) {
+    let first = line_size(a, x);
+    if room.len() < first {
         return Written {
             answer: 14,
             size: 0,
         };
     }
-    let second = put_line(room, 0, a, x);
-    let third = put_line(room, second, b, y);
-    let size = put_line(room, third, c, z);
-    Written { answer: 0, size }
-}
-
-// The header of a register.
-pub fn write_header(header: Header, room: &mut [u8]) -> Written
-    ensures { λ r. ⌜ Told (headerWritten header (now (room .entry))) r (now (room .exit)) ⌝ }
-{
-    if !cells::headed(header) {
-        return Written { answer: 1, size: 0 };
+    let second = line_size(b, y);
+    if room.len() - first < second {
+        return Written {
+            answer: 14,
+            size: 0,
+        };
     }
-    let n = header.n as u32;
-    let soa = header.soa.0 as u32;
-    let layer = header.layer.0 as u32;
-    write_three(b"n=", n, b"soa=", soa, b"layer=", layer, room)
-}
-
-// What a command answered, and how many records it removed and added.
-pub fn write_answer(answer: u8, removed: u32, added: u32, room: &mut [u8]) -> Written
-    ensures { λ r. ⌜ Told (answerWritten answer removed added (now (room .entry))) r (now (room .exit)) ⌝ }
-{
-    write_three(
-        b"answer=",
-        answer as u32,
-        b"removed=",
-        removed,
-        b"added=",
-        added,
-        room,
-    )
-}
-
-// The refusal of an input, and where in it the first bad line starts.
-pub fn write_refused(number: u8, at: u32, room: &mut [u8]) -> Written
-    ensures { λ r. ⌜ Told (refusedWritten number at (now (room .entry))) r (now (room .exit)) ⌝ }
-{
-    write_two(b"refused=", number as u32, b"at=", at, room)
+    if room.len() - first - second < line_size(c, z) {
+        return Written {
+            answer: 14,
+            size: 0,
+        };
+    }
+    let behind_first = put_line(room, 0, a, x);
+    let behind_second = put_line(room, behind_first, b, y);
+    let size = put_line(room, behind_second, c, z);
+    Written { answer: 0, size }
 }

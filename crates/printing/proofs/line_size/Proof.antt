@@ -1,7 +1,7 @@
 -- `printing::line_size` meets its contract. Assumes nothing.
 use native.Mathlib.Omega.{arith}
 use lib.ListN.{length-append}
-use Rattle.printing.specs.Answers.{numberLine}
+use Rattle.printing.specs.NumberLine.{numberLine}
 use borrow.Author.Needs.{needs}
 use Rattle.printing.proofs.line_size.Statement.{statement}
 use Rattle.printing.proofs.line_size.Tie as tie

@@ -1,11 +1,11 @@
 -- `printing::write_refused` meets its contract. Assumes nothing.
-use Rattle.printing.specs.Answers.{refusedText, refusedWritten}
+use Rattle.writers.specs.Answers.{refusedText, refusedWritten}
 use borrow.Author.Needs.{needs}
-use Rattle.printing.proofs.write_refused.Statement.{statement}
-use Rattle.printing.proofs.write_refused.Tie as tie
-use Rattle.printing.proofs.write_refused.Reads as reads
-use Rattle.printing.proofs.write_refused.Lts as lts
+use Rattle.writers.proofs.write_refused.Statement.{statement}
+use Rattle.writers.proofs.write_refused.Tie as tie
+use Rattle.writers.proofs.write_refused.Reads as reads
+use Rattle.writers.proofs.write_refused.Lts as lts
 use Rattle.printing.proofs.write_two.Reads as write-two-reads
 
 -- src/lib.rt:200:15
 slice-aggregate-write-two : tie.Need-slice-aggregate-write-two

@@ -2,11 +2,11 @@
 use Rattle.wording.specs.Word.{endText}
 use Rattle.wording.specs.Writer.{endWritten}
 use borrow.Author.Needs.{needs}
-use Rattle.printing.proofs.write_end.Statement.{statement}
-use Rattle.printing.proofs.write_end.Tie as tie
-use Rattle.printing.proofs.write_end.Reads as reads
-use Rattle.printing.proofs.write_end.Lts as lts
+use Rattle.writers.proofs.write_end.Statement.{statement}
+use Rattle.writers.proofs.write_end.Tie as tie
+use Rattle.writers.proofs.write_end.Reads as reads
+use Rattle.writers.proofs.write_end.Lts as lts
 use Rattle.printing.proofs.write_bytes.Reads as write-bytes-reads
 
 -- src/lib.rt:124:17
 slice-aggregate-write-bytes : tie.Need-slice-aggregate-write-bytes

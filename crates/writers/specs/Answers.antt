@@ -1,15 +1,9 @@
 -- The lines that the program `regrun` writes besides a register's text.
 use Prim.Native.Nat.{ℕ}
-use mathlib.Core.List.{List, [], _∷_, _++_}
-use Rattle.rights.specs.Permission.{Permission, code}
-use Rattle.wording.specs.Word.{bytes, lf}
-use Rattle.wording.specs.Line.{numeral}
-use Rattle.wording.specs.Records.{Record}
+use mathlib.Core.List.{List, _++_}
+use Rattle.wording.specs.Word.{bytes}
 use Rattle.wording.specs.Writer.{Written, writtenBehind}
-
--- a line with a number of any size
-unfoldable pub numberLine : List ℕ → ℕ → List ℕ
-numberLine key v = key ++ (numeral v ++ (lf ∷ []))
+use Rattle.printing.specs.NumberLine.{numberLine}
 
 -- 01: 'For each command: `answer=` (0 or its refusal), `removed=` and `added=` (its own tally).'
 unfoldable pub answerText : ℕ → ℕ → ℕ → List ℕ
@@ -26,7 +20,3 @@ answerWritten answer removed added room = writtenBehind 0 room (answerText answe
 
 unfoldable pub refusedWritten : ℕ → ℕ → List ℕ → Written
 refusedWritten number at room = writtenBehind 0 room (refusedText number at)
-
--- the record of a permission
-abbrev pub recordFor : ℕ → ℕ → Permission → Record
-recordFor i j p = record { by = i; to = j; perm = code p }

@@ -6,15 +6,15 @@ use Rattle.wording.specs.Word.{bytes, key, form}
 use Rattle.wording.specs.Line.{wordOf, lineText}
 use Rattle.wording.specs.Lines.{linesText, headerLines, headerValues, headerText}
 use Rattle.wording.specs.Writer.{headerWritten}
-use Rattle.printing.specs.Answers.{numberLine}
+use Rattle.printing.specs.NumberLine.{numberLine}
 use Rattle.printing.proofs.Told.{told-refused}
 use borrow.Author.Needs.{needs}
-use Rattle.printing.proofs.write_header.Statement.{statement}
-use Rattle.printing.proofs.write_header.Tie as tie
-use Rattle.printing.proofs.write_header.Reads as reads
-use Rattle.printing.proofs.write_header.Lts as lts
+use Rattle.writers.proofs.write_header.Statement.{statement}
+use Rattle.writers.proofs.write_header.Tie as tie
+use Rattle.writers.proofs.write_header.Reads as reads
+use Rattle.writers.proofs.write_header.Lts as lts
 use Rattle.cells.proofs.headed.Reads as headed-reads
 use Rattle.printing.proofs.write_three.Reads as write-three-reads
 use mathlib.Core.Path.{_≡_, sym, _∙_}
 use borrow.Author.Tests.{not-true, not-false}
 use Rattle.rights.specs.declared.Header.{Header}

@@ -3,10 +3,10 @@ use Rattle.rights.specs.Permission.{code}
 use Rattle.wording.specs.Word.{key, form, perms, wordFor}
 use Rattle.wording.specs.Line.{wordOf, lineText}
 use Rattle.cells.proofs.Byte.{as-TT, as-TF, as-FT, as-FF}
-use Rattle.printing.proofs.perm_line.Statement.{statement}
-use Rattle.printing.proofs.perm_line.Tie as tie
-use Rattle.printing.proofs.perm_line.Reads as reads
-use Rattle.printing.proofs.perm_line.Lts as lts
+use Rattle.writers.proofs.perm_line.Statement.{statement}
+use Rattle.writers.proofs.perm_line.Tie as tie
+use Rattle.writers.proofs.perm_line.Reads as reads
+use Rattle.writers.proofs.perm_line.Lts as lts
 
 -- src/lib.rt:109:9
 returns : tie.Need-returns

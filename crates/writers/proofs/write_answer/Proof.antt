@@ -1,11 +1,11 @@
 -- `printing::write_answer` meets its contract. Assumes nothing.
-use Rattle.printing.specs.Answers.{answerText, answerWritten}
+use Rattle.writers.specs.Answers.{answerText, answerWritten}
 use borrow.Author.Needs.{needs}
-use Rattle.printing.proofs.write_answer.Statement.{statement}
-use Rattle.printing.proofs.write_answer.Tie as tie
-use Rattle.printing.proofs.write_answer.Reads as reads
-use Rattle.printing.proofs.write_answer.Lts as lts
+use Rattle.writers.proofs.write_answer.Statement.{statement}
+use Rattle.writers.proofs.write_answer.Tie as tie
+use Rattle.writers.proofs.write_answer.Reads as reads
+use Rattle.writers.proofs.write_answer.Lts as lts
 use Rattle.printing.proofs.write_three.Reads as write-three-reads
 
 -- src/lib.rt:186:9
 slice-aggregate-write-three : tie.Need-slice-aggregate-write-three

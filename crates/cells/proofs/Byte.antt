@@ -1,7 +1,6 @@
 -- A cell and a permission as the code reads them: a permission by its code, a byte by its lower bits. Assumes nothing.
 use Prim.Native.Nat.{ℕ, zero, suc, _+_, _*_, _/_, _%_, _<_}
-use native.Mathlib.Omega.{arith}
-use mathlib.Core.Path.{_≡_, refl, ap, sym, _∙_}
+use mathlib.Core.Path.{_≡_, refl, sym}
 use mathlib.Core.Logic.{_⊎_, inl, inr, ⊎-elim}
 use mathlib.Core.Bool.{Bool, true, false, not, cond, Bool·beq}
 use lib.Dec.{eqb}
@@ -30,7 +29,8 @@ pub as-FF : {k : ℕ} → (k ≡ 8 → ⊥) → (k ≡ 4 → ⊥) → (k ≡ 2 �
 unfolding decoded
 as-FF {k} a b c = rw (ne-eqb k 8 a, ne-eqb k 4 b, ne-eqb k 2 c)
 
-beq-same : (a b : Bool) → Bool·beq a b ≡ true → a ≡ b
+-- tests that compare as equal are equal
+pub beq-same : (a b : Bool) → Bool·beq a b ≡ true → a ≡ b
 beq-same true true e = refl
 beq-same true false e = sym e
 beq-same false true e = e

@@ -7,7 +7,7 @@ ghost use mathlib.Core.Path.{_≡_};
 ghost use mathlib.Core.Bool.{_&&_, _||_, not, cond};
 ghost use Prim.Native.Nat.{_≤_};
 ghost use lib.Dec.{eqb, leb};
-ghost use Rattle.rights.specs.Permission.{code, need, decoded};
+ghost use Rattle.rights.specs.Permission.{need, decoded};
 ghost use Rattle.rights.specs.Register.{cell as cellOf};
 ghost use Rattle.rights.specs.Sound.{headed as isHeaded, whole as isWhole};
 ghost use Rattle.rights.specs.Cell.{has as hasRecord, carries as cellCarries, size as cellSize, union as cellUnion, without as cellWithout, restrict as restrictCell};

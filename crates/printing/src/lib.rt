@@ -2,7 +2,7 @@
 // is left as it was.
 ghost use mathlib.Core.Path.{_≡_};
 ghost use mathlib.Core.List.{[], _∷_, _++_};
-ghost use Prim.Native.Nat.{_+_, _≤_};
+ghost use Prim.Native.Nat.{_≤_};
 ghost use lib.ListN.{length};
 ghost use Rattle.wording.specs.Line.{numeral};
 ghost use Rattle.wording.specs.Writer.{writtenBehind};
@@ -19,7 +19,7 @@ pub struct Written {
 // How many digits a number has in decimal.
 pub fn digits(v: u32) -> usize
     ensures value { λ r. ⌜ r ≡ length (numeral v) ⌝ }
-    ensures few { λ r. ⌜ r ≤ v + 1 ⌝ }
+    ensures few { λ r. ⌜ r ≤ 10 ⌝ }
 {
     let mut count = 1;
     let mut rest = v;
@@ -77,8 +77,7 @@ fn put_line(room: &mut [u8], at: usize, key: &[u8], v: u32) -> usize
 
 // How long a line is.
 fn line_size(key: &[u8], v: u32) -> usize
-    ensures value { λ r. ⌜ r ≡ length (numberLine (now (key .entry)) v) ⌝ }
-    ensures few { λ r. ⌜ r ≤ length (now (key .entry)) + v + 2 ⌝ }
+    ensures { λ r. ⌜ r ≡ length (numberLine (now (key .entry)) v) ⌝ }
 {
     key.len() + digits(v) + 1
 }

@@ -5,7 +5,7 @@ use mathlib.Core.Path.{_≡_, refl, ap}
 use lib.ListN.{length}
 use borrow.Author.Needs.{needs}
 use Rattle.wording.specs.Line.{numeral}
-use Rattle.printing.proofs.Number.{one-digit, more-digits}
+use Rattle.printing.proofs.Number.{one-digit, more-digits, ten-digits}
 use Rattle.printing.proofs.digits.Statement.{statement}
 use Rattle.printing.proofs.digits.Tie as tie
 use Rattle.printing.proofs.digits.Reads as reads
@@ -35,7 +35,9 @@ loop-again c = (omega (arith, more-digits (c .before .loop .rest) (c .loop-test 
 
 -- src/lib.rt:20:1
 returns : tie.Need-returns Inv-loop μ-loop
-returns c = (omega (arith, one-digit (c .before .loop .rest) (c .loop-test .left)), omega arith)
+returns c =
+    let one = one-digit (c .before .loop .rest) (c .loop-test .left) in
+    (omega arith, omega (arith, ten-digits (c .before .before .args .v) (search needs)))
 
 pub digits-spec : {M : Type 1} → statement M
 digits-spec =

@@ -24,7 +24,7 @@ add-result-2 c = search needs
 -- src/lib.rt:83:1
 returns : tie.Need-returns
 unfolding numberLine
-returns c = (simp length-append (omega arith), omega arith)
+returns c = simp length-append (omega arith)
 
 pub line-size-spec : {M : Type 1} → statement M
 line-size-spec = tie.close (tie.spec digits-requires add-result add-result-2 returns)

@@ -1,0 +1,120 @@
+-- Rounds over marks made up to 128 are the rounds of the definition. Assumes nothing.
+use Prim.Native.Nat.{ℕ, zero, suc, _+_, _≤_, _<_}
+use native.Mathlib.Numerals.{add-one}
+use native.Mathlib.Omega.{arith}
+use mathlib.Core.Path.{_≡_, refl, ap, ap₂, sym, _∙_}
+use mathlib.Core.Logic.{⊎-elim}
+use mathlib.Core.Bool.{Bool, true, false, _&&_, _||_, not}
+use mathlib.Core.List.{List}
+use lib.ListN.{length, getD, set, replicate, length-set, length-replicate}
+use lib.Seq.{getD-set-same, getD-set-other, ext-getD}
+use lib.Dec.{eqb}
+use borrow.Author.Tests.{eqb-true, eqb-false, ne-eqb}
+use Rattle.rights.specs.declared.Header.{Header}
+use Rattle.rights.specs.Below.{table}
+use Rattle.rights.specs.Permission.{Permission}
+use Rattle.rights.specs.Cell.{carries}
+use Rattle.rights.specs.Register.{cell, soaOf}
+use Rattle.rights.specs.Level.{isIn, linked, reached, otherThan}
+use Rattle.theory.proofs.Tests.{decided}
+use Rattle.theory.proofs.Below.{all-at, any-ext, table-ext, length-table}
+use Rattle.theory.proofs.Growth.{stays}
+use Rattle.cells.proofs.Byte.{beq-same}
+use Rattle.levels.specs.Round.{markedFirst, markedNext, marking, sameMark, sameMarks}
+use Rattle.levels.specs.Padded.{padded}
+use Rattle.levels.proofs.Padded.{all-none, getD-padded, length-padded, padded-of}
+
+-- a set made up to 128 is the same set
+pub in-padded : (set : List Bool) (y : ℕ) → isIn (padded false set) y ≡ isIn set y
+unfolding isIn
+in-padded set y = getD-padded false set y
+
+module _ (h : Header) (R : List ℕ) (out : ℕ) (p : Permission) where
+  -- a round goes by what is in the set alone
+  marking-ext : (A B : List Bool) → ((y : ℕ) → isIn A y ≡ isIn B y) → marking h R out p A ≡ marking h R out p B
+  unfolding marking markedNext linked
+  marking-ext A B e =
+      table-ext (h .n) (markedNext h R out p A) (markedNext h R out p B)
+      (λ y l. ap₂ (λ (a b : Bool). a || otherThan out y && b) (e y)
+      (any-ext (h .n) (λ x. isIn A x && carries (cell h R x y) p) (λ x. isIn B x && carries (cell h R x y) p)
+      (λ x m. ap (λ (a : Bool). a && carries (cell h R x y) p) (e x))))
+
+  -- the next round of the definition, from the marks made up to 128
+  pub next-round : (d : ℕ) → reached h R (otherThan out) p (suc d) ≡ marking h R out p (padded false (reached h R (otherThan out) p d))
+  unfolding reached marking markedNext
+  next-round d =
+      sym (marking-ext (padded false (reached h R (otherThan out) p d)) (reached h R (otherThan out) p d) (in-padded (reached h R (otherThan out) p d)))
+
+not-both : (a : Bool) → a && not a ≡ false
+not-both true = refl
+not-both false = refl
+
+-- with SOA left out nobody is marked at first
+pub first-none : (h : Header) (out : ℕ) → h .n ≤ 128 → soaOf h ≡ out → replicate 128 false ≡ padded false (table (h .n) (markedFirst h out))
+unfolding markedFirst otherThan
+first-none h out small e =
+    padded-of false (markedFirst h out) (h .n) (replicate 128 false) small (length-replicate 128 false)
+    (λ k l. all-none false 128 k ∙ sym (rw e (not-both (eqb k out))))
+    (λ k l. all-none false 128 k)
+
+-- and otherwise SOA alone
+pub first-soa :
+    (h : Header) (out : ℕ) →
+    h .n ≤ 128 →
+    soaOf h < h .n →
+    (soaOf h ≡ out → ⊥) →
+    set (replicate 128 false) (soaOf h) true ≡ padded false (table (h .n) (markedFirst h out))
+unfolding markedFirst otherThan
+first-soa h out small inside ne =
+    padded-of false (markedFirst h out) (h .n) (set (replicate 128 false) (soaOf h) true) small
+    (simp (length-set, length-replicate))
+    (λ k l. ⊎-elim
+    (λ t. let e : k ≡ soaOf h = eqb-true k (soaOf h) t in
+    rw (t, e, ne-eqb (soaOf h) out ne) (getD-set-same (replicate 128 false) (soaOf h) true false (rw length-replicate (omega arith))))
+    (λ t. rw t (getD-set-other (replicate 128 false) (soaOf h) k true false (eqb-false k (soaOf h) t) ∙ all-none false 128 k))
+    (decided (eqb k (soaOf h))))
+    (λ k l. getD-set-other (replicate 128 false) (soaOf h) k true false (λ e. let l′ : soaOf h < k = omega arith in omega arith) ∙ all-none false 128 k)
+
+-- sets with the same marks are equal
+same-marks : (a b : List Bool) → length a ≡ 128 → length b ≡ 128 → sameMarks a b ≡ true → a ≡ b
+unfolding sameMarks sameMark isIn
+same-marks a b la lb e =
+    ext-getD false a b (la ∙ sym lb)
+    (λ k l. beq-same (getD a k false) (getD b k false) (all-at 128 (sameMark a b) e k (rw la at l)))
+
+module _ (h : Header) (R : List ℕ) (out : ℕ) (p : Permission) where
+  -- the marks after so many rounds, made up to 128
+  unfoldable pub marksAfter : ℕ → List Bool
+  marksAfter d = padded false (reached h R (otherThan out) p d)
+
+  pub marks-first : padded false (table (h .n) (markedFirst h out)) ≡ marksAfter 0
+  unfolding marksAfter reached markedFirst
+  marks-first = refl
+
+  marks-step : (d : ℕ) → marksAfter (suc d) ≡ padded false (marking h R out p (marksAfter d))
+  unfolding marksAfter
+  marks-step d = ap (padded false) (next-round h R out p d)
+
+  pub marks-next : (d : ℕ) → padded false (marking h R out p (marksAfter d)) ≡ marksAfter (d + 1)
+  marks-next d = rw add-one (sym (marks-step d))
+
+  length-reached : (d : ℕ) → length (reached h R (otherThan out) p d) ≡ h .n
+  unfolding reached markedFirst markedNext
+  length-reached zero = length-table (h .n) (markedFirst h out)
+  length-reached (suc d) = length-table (h .n) (markedNext h R out p (reached h R (otherThan out) p d))
+
+  length-marks : (d : ℕ) → h .n ≤ 128 → length (marksAfter d) ≡ 128
+  unfolding marksAfter
+  length-marks d small = length-padded false (reached h R (otherThan out) p d) (rw length-reached small)
+
+  -- a round that adds nothing is the last
+  pub marks-rest :
+      (d : ℕ) →
+      h .n ≤ 128 →
+      d ≤ h .n →
+      sameMarks (padded false (marking h R out p (marksAfter d))) (marksAfter d) ≡ true →
+      marksAfter d ≡ marksAfter (h .n)
+  marks-rest d small l e =
+      sym
+      (stays (λ marks. padded false (marking h R out p marks)) marksAfter marks-step d (h .n) l
+      (same-marks (marksAfter (suc d)) (marksAfter d) (length-marks (suc d) small) (length-marks d small) (rw marks-step e)))

@@ -1,2 +1,3 @@
--- The lines that the program writes besides a register's text.
+-- What the writers cite besides the definitions of the text.
 pub mod Answers
+pub mod Row

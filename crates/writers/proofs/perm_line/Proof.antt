@@ -1,7 +1,8 @@
--- `printing::perm_line` meets its contract: in each way the number is read as one permission. Assumes nothing.
+-- `writers::perm_line` meets its contract: in each way the number is read as one permission. Assumes nothing.
 use Rattle.rights.specs.Permission.{code}
 use Rattle.wording.specs.Word.{key, form, perms, wordFor}
 use Rattle.wording.specs.Line.{wordOf, lineText}
+use Rattle.writers.specs.Row.{permText}
 use Rattle.cells.proofs.Byte.{as-TT, as-TF, as-FT, as-FF}
 use Rattle.writers.proofs.perm_line.Statement.{statement}
 use Rattle.writers.proofs.perm_line.Tie as tie
@@ -10,22 +11,22 @@ use Rattle.writers.proofs.perm_line.Lts as lts
 
 -- src/lib.rt:109:9
 returns : tie.Need-returns
-unfolding code lineText key form wordOf perms wordFor
+unfolding permText code lineText key form wordOf perms wordFor
 returns c = rw (as-TT (c .before .before .if1 .taken))
 
 -- src/lib.rt:112:9
 returns-2 : tie.Need-returns-2
-unfolding code lineText key form wordOf perms wordFor
+unfolding permText code lineText key form wordOf perms wordFor
 returns-2 c = rw (as-TF (c .before .before .if2 .taken))
 
 -- src/lib.rt:115:9
 returns-3 : tie.Need-returns-3
-unfolding code lineText key form wordOf perms wordFor
+unfolding permText code lineText key form wordOf perms wordFor
 returns-3 c = rw (as-FT (c .before .before .if3 .taken))
 
 -- src/lib.rt:105:1
 returns-4 : tie.Need-returns-4
-unfolding code lineText key form wordOf perms wordFor
+unfolding permText code lineText key form wordOf perms wordFor
 returns-4 c = rw (as-FF (c .before .before .before .before .if1 .left) (c .before .before .before .if2 .left) (c .before .before .if3 .left))
 
 pub perm-line-spec : {M : Type 1} → statement M

@@ -1,4 +1,4 @@
--- `printing::write_answer` meets its contract. Assumes nothing.
+-- `writers::write_answer` meets its contract. Assumes nothing.
 use Rattle.writers.specs.Answers.{answerText, answerWritten}
 use borrow.Author.Needs.{needs}
 use Rattle.writers.proofs.write_answer.Statement.{statement}

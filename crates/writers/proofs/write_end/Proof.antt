@@ -1,4 +1,4 @@
--- `printing::write_end` meets its contract. Assumes nothing.
+-- `writers::write_end` meets its contract. Assumes nothing.
 use Rattle.wording.specs.Word.{endText}
 use Rattle.wording.specs.Writer.{endWritten}
 use borrow.Author.Needs.{needs}

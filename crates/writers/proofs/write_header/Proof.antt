@@ -1,4 +1,4 @@
--- `printing::write_header` meets its contract. Assumes nothing.
+-- `writers::write_header` meets its contract. Assumes nothing.
 use native.Mathlib.Omega.{arith}
 use mathlib.Core.List.{_++_, append-nil}
 use Rattle.rights.specs.Sound.{unless}

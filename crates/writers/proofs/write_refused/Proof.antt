@@ -1,4 +1,4 @@
--- `printing::write_refused` meets its contract. Assumes nothing.
+-- `writers::write_refused` meets its contract. Assumes nothing.
 use Rattle.writers.specs.Answers.{refusedText, refusedWritten}
 use borrow.Author.Needs.{needs}
 use Rattle.writers.proofs.write_refused.Statement.{statement}

@@ -2,3 +2,4 @@
 pub mod Put
 pub mod Number
 pub mod Told
+pub mod Unique

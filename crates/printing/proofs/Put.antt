@@ -5,8 +5,8 @@ use native.Mathlib.Numerals.{add-one}
 use native.Mathlib.Omega.{arith}
 use mathlib.Core.Path.{_≡_, refl, ap, sym, _∙_}
 use mathlib.Core.List.{List, [], _∷_, _++_}
-use lib.ListN.{length, take, drop, getD, length-append}
-use lib.Seq.{sets, sets-eq, length-sets, take-suc, take-all}
+use lib.ListN.{length, take, getD, length-append}
+use lib.Seq.{sets, length-sets, take-suc, take-all}
 use Rattle.printing.specs.Put.{Room, Put}
 
 -- two writes in a row are one of the joined text

@@ -5,23 +5,16 @@ use Rattle.printing.specs.NumberLine.{numberLine}
 use borrow.Author.Needs.{needs}
 use Rattle.printing.proofs.line_size.Statement.{statement}
 use Rattle.printing.proofs.line_size.Tie as tie
-use Rattle.printing.proofs.line_size.Reads as reads
-use Rattle.printing.proofs.line_size.Lts as lts
-use Rattle.printing.proofs.digits.Reads as digits-reads
 
--- src/lib.rt:87:17
 digits-requires : tie.Need-digits-requires
 digits-requires c κs = search needs
 
--- src/lib.rt:87:5
 add-result : tie.Need-add-result
 add-result c = search needs
 
--- src/lib.rt:87:5
 add-result-2 : tie.Need-add-result-2
 add-result-2 c = search needs
 
--- src/lib.rt:83:1
 returns : tie.Need-returns
 unfolding numberLine
 returns c = simp length-append (omega arith)

@@ -8,9 +8,6 @@ use Rattle.printing.specs.Put.{Put}
 use Rattle.printing.proofs.Put.{put-none, put-next, put-all, put-length}
 use Rattle.printing.proofs.put_bytes.Statement.{statement}
 use Rattle.printing.proofs.put_bytes.Tie as tie
-use Rattle.printing.proofs.put_bytes.Reads as reads
-use Rattle.printing.proofs.put_bytes.Lts as lts
-use Rattle.printing.proofs.put_byte.Reads as put-byte-reads
 
 abbrev Inv-loop : tie.InvT-loop
 Inv-loop room₀ at text next₀ k₀ room next k = (k ≤ length text) × Put (take k text) room₀ at room next
@@ -18,39 +15,31 @@ Inv-loop room₀ at text next₀ k₀ room next k = (k ≤ length text) × Put (
 abbrev μ-loop : tie.MeasureT-loop
 μ-loop room₀ at text next₀ k₀ room next k = length text - k
 
--- src/lib.rt:49:5
 loop-holds : tie.Need-loop-holds Inv-loop μ-loop
 loop-holds c = (search needs, put-none)
 
--- src/lib.rt:50:37
 shared-slice-read-put-byte : tie.Need-shared-slice-read-put-byte Inv-loop μ-loop
 shared-slice-read-put-byte c = search needs
 
--- src/lib.rt:50:9
 put-byte-requires : tie.Need-put-byte-requires Inv-loop μ-loop
 put-byte-requires c κs =
     let turn = c .before .before in
     omega (arith, length-take-le (turn .before .loop .k) (turn .before .before .before .before .args .text .now) (search needs), put-length (turn .before .loop .inv .1))
 
--- src/lib.rt:51:9
 add-k : tie.Need-add-k Inv-loop μ-loop
 add-k c = search needs
 
--- src/lib.rt:49:5
 loop-less : tie.Need-loop-less Inv-loop μ-loop
 loop-less c = search needs
 
--- src/lib.rt:49:5
 loop-again : tie.Need-loop-again Inv-loop μ-loop
 loop-again c =
     let turn = c .before .before .before .before .before in
     (search needs, put-next _ (turn .before .loop .k) (turn .loop-test .taken) (turn .before .loop .inv .1) (c .before .before .put-byte .ensures))
 
--- src/lib.rt:43:1
 same-length : tie.Need-same-length Inv-loop μ-loop
 same-length c = put-length (c .before .loop .inv .1)
 
--- src/lib.rt:43:1
 returns : tie.Need-returns Inv-loop μ-loop
 returns c = put-all _ (c .before .loop .k) (c .loop-test .left) (c .before .loop .inv .1)
 

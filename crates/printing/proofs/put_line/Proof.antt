@@ -6,25 +6,17 @@ use Rattle.printing.proofs.Put.{put-both, room-first, room-second}
 use borrow.Author.Needs.{needs}
 use Rattle.printing.proofs.put_line.Statement.{statement}
 use Rattle.printing.proofs.put_line.Tie as tie
-use Rattle.printing.proofs.put_line.Reads as reads
-use Rattle.printing.proofs.put_line.Lts as lts
-use Rattle.printing.proofs.put_byte.Reads as put-byte-reads
-use Rattle.printing.proofs.put_bytes.Reads as put-bytes-reads
-use Rattle.printing.proofs.put_number.Reads as put-number-reads
 
--- src/lib.rt:73:9
 put-bytes-requires : tie.Need-put-bytes-requires
 unfolding numberLine
 put-bytes-requires c κs = let start = c .before .before .before in room-first (numeral (start .args .v) ++ (10 ∷ [])) (start .pre)
 
--- src/lib.rt:74:9
 put-number-requires : tie.Need-put-number-requires
 unfolding numberLine
 put-number-requires c κs =
     let start = c .before .before .before .before .before .before .before in
     room-first (10 ∷ []) (room-second _ (c .before .before .before .put-bytes .ensures) (start .pre))
 
--- src/lib.rt:75:5
 put-byte-requires : tie.Need-put-byte-requires
 unfolding numberLine
 put-byte-requires c κs =
@@ -33,11 +25,9 @@ put-byte-requires c κs =
     let rest = room-second (numeral (start .args .v) ++ (10 ∷ [])) (key .put-bytes .ensures) (start .pre) in
     room-second (10 ∷ []) (c .before .before .before .put-number .ensures) rest
 
--- src/lib.rt:69:1
 same-length : tie.Need-same-length
 same-length c = search needs
 
--- src/lib.rt:69:1
 returns : tie.Need-returns
 unfolding numberLine
 returns c =

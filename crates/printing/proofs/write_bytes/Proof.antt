@@ -3,23 +3,16 @@ use Rattle.printing.proofs.Told.{told-short, told-done}
 use borrow.Author.Needs.{needs}
 use Rattle.printing.proofs.write_bytes.Statement.{statement}
 use Rattle.printing.proofs.write_bytes.Tie as tie
-use Rattle.printing.proofs.write_bytes.Reads as reads
-use Rattle.printing.proofs.write_bytes.Lts as lts
-use Rattle.printing.proofs.put_bytes.Reads as put-bytes-reads
 
--- src/lib.rt:95:9
 returns : tie.Need-returns
 returns c = told-short _ _ (c .if1 .taken)
 
--- src/lib.rt:100:9
 put-bytes-requires : tie.Need-put-bytes-requires
 put-bytes-requires c κs = search needs
 
--- src/lib.rt:91:1
 same-length : tie.Need-same-length
 same-length c = search needs
 
--- src/lib.rt:91:1
 returns-2 : tie.Need-returns-2
 returns-2 c = told-done (search needs) (c .before .before .put-bytes .ensures)
 

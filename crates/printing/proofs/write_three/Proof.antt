@@ -6,64 +6,46 @@ use Rattle.printing.proofs.Told.{told-short, told-done}
 use borrow.Author.Needs.{needs}
 use Rattle.printing.proofs.write_three.Statement.{statement}
 use Rattle.printing.proofs.write_three.Tie as tie
-use Rattle.printing.proofs.write_three.Reads as reads
-use Rattle.printing.proofs.write_three.Lts as lts
-use Rattle.printing.proofs.line_size.Reads as line-size-reads
-use Rattle.printing.proofs.put_line.Reads as put-line-reads
 
--- src/lib.rt:135:9
 line-size-requires : tie.Need-line-size-requires
 line-size-requires c κs = search needs
 
--- src/lib.rt:137:9
 returns : tie.Need-returns
 returns c = told-short _ _ (simp length-append (omega arith))
 
--- src/lib.rt:142:9
 line-size-requires-2 : tie.Need-line-size-requires-2
 line-size-requires-2 c κs = search needs
 
--- src/lib.rt:143:8
 sub-if2 : tie.Need-sub-if2
 sub-if2 c = search needs
 
--- src/lib.rt:144:9
 returns-2 : tie.Need-returns-2
 returns-2 c = told-short _ _ (simp length-append (omega arith))
 
--- src/lib.rt:149:8
 sub-if3 : tie.Need-sub-if3
 sub-if3 c = search needs
 
--- src/lib.rt:149:8
 sub-if3-2 : tie.Need-sub-if3-2
 sub-if3-2 c = search needs
 
--- src/lib.rt:149:38
 line-size-requires-3 : tie.Need-line-size-requires-3
 line-size-requires-3 c κs = search needs
 
--- src/lib.rt:150:9
 returns-3 : tie.Need-returns-3
 returns-3 c = told-short _ _ (simp length-append (omega arith))
 
--- src/lib.rt:155:9
 put-line-requires : tie.Need-put-line-requires
 put-line-requires c κs = search needs
 
--- src/lib.rt:156:9
 put-line-requires-2 : tie.Need-put-line-requires-2
 put-line-requires-2 c κs = search needs
 
--- src/lib.rt:157:9
 put-line-requires-3 : tie.Need-put-line-requires-3
 put-line-requires-3 c κs = search needs
 
--- src/lib.rt:124:1
 same-length : tie.Need-same-length
 same-length c = search needs
 
--- src/lib.rt:124:1
 returns-4 : tie.Need-returns-4
 returns-4 c =
     let second = c .before .before .before .before .before .before in

@@ -7,44 +7,31 @@ use Rattle.writers.proofs.Row.{cell-size, few-records}
 use borrow.Author.Needs.{needs}
 use Rattle.writers.proofs.cell_size.Statement.{statement}
 use Rattle.writers.proofs.cell_size.Tie as tie
-use Rattle.writers.proofs.cell_size.Reads as reads
-use Rattle.writers.proofs.cell_size.Lts as lts
-use Rattle.cells.proofs.size.Reads as size-reads
-use Rattle.printing.proofs.digits.Reads as digits-reads
 
--- src/lib.rt:82:40
 cast-digits : tie.Need-cast-digits
 cast-digits c = search needs
 
--- src/lib.rt:82:23
 digits-requires : tie.Need-digits-requires
 digits-requires c κs = search needs
 
--- src/lib.rt:82:18
 add-record : tie.Need-add-record
 add-record c = search needs
 
--- src/lib.rt:82:72
 cast-digits-2 : tie.Need-cast-digits-2
 cast-digits-2 c = search needs
 
--- src/lib.rt:82:55
 digits-requires-2 : tie.Need-digits-requires-2
 digits-requires-2 c κs = search needs
 
--- src/lib.rt:82:18
 add-record-2 : tie.Need-add-record-2
 add-record-2 c = search needs
 
--- src/lib.rt:83:5
 size-requires : tie.Need-size-requires
 size-requires c κs = search needs
 
--- src/lib.rt:83:5
 cast-result : tie.Need-cast-result
 cast-result c = search needs
 
--- src/lib.rt:83:5
 -- a cell has four records at most, and a record 36 bytes
 few : (c : tie.After-size) → c .size .result * (16 + c .before .before .before .digits .result + c .before .digits2 .result) ≤ 144
 few c =

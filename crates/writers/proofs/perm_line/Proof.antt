@@ -6,25 +6,19 @@ use Rattle.writers.specs.Row.{permText}
 use Rattle.cells.proofs.Byte.{as-TT, as-TF, as-FT, as-FF}
 use Rattle.writers.proofs.perm_line.Statement.{statement}
 use Rattle.writers.proofs.perm_line.Tie as tie
-use Rattle.writers.proofs.perm_line.Reads as reads
-use Rattle.writers.proofs.perm_line.Lts as lts
 
--- src/lib.rt:109:9
 returns : tie.Need-returns
 unfolding permText code lineText key form wordOf perms wordFor
 returns c = rw (as-TT (c .before .before .if1 .taken))
 
--- src/lib.rt:112:9
 returns-2 : tie.Need-returns-2
 unfolding permText code lineText key form wordOf perms wordFor
 returns-2 c = rw (as-TF (c .before .before .if2 .taken))
 
--- src/lib.rt:115:9
 returns-3 : tie.Need-returns-3
 unfolding permText code lineText key form wordOf perms wordFor
 returns-3 c = rw (as-FT (c .before .before .if3 .taken))
 
--- src/lib.rt:105:1
 returns-4 : tie.Need-returns-4
 unfolding permText code lineText key form wordOf perms wordFor
 returns-4 c = rw (as-FF (c .before .before .before .before .if1 .left) (c .before .before .before .if2 .left) (c .before .before .if3 .left))

@@ -8,9 +8,6 @@ use Rattle.writers.proofs.Row.{cell-members}
 use borrow.Author.Needs.{needs}
 use Rattle.writers.proofs.put_cell.Statement.{statement}
 use Rattle.writers.proofs.put_cell.Tie as tie
-use Rattle.writers.proofs.put_cell.Reads as reads
-use Rattle.writers.proofs.put_cell.Lts as lts
-use Rattle.writers.proofs.put_member.Reads as put-member-reads
 
 -- room for the cell is room for its records, one behind the other
 fits :
@@ -24,30 +21,24 @@ fits :
     (a .room .now) (a .at)
 fits c = rw cell-members at (c .pre)
 
--- src/lib.rt:134:9
 put-member-requires : tie.Need-put-member-requires
 put-member-requires c κs = room-first _ (fits (c .before .before))
 
--- src/lib.rt:135:9
 put-member-requires-2 : tie.Need-put-member-requires-2
 put-member-requires-2 c κs = room-first _ (room-second _ (c .before .before .before .put-member .ensures) (fits (c .before .before .before .before .before .before)))
 
--- src/lib.rt:136:9
 put-member-requires-3 : tie.Need-put-member-requires-3
 put-member-requires-3 c κs = room-first _ (room-second _ (c .before .before .before .put-member2 .ensures) (room-second _ (c .before .before .before .before .before .before .before .put-member .ensures) (fits (c .before .before .before .before .before .before .before .before .before .before))))
 
--- src/lib.rt:137:5
 put-member-requires-4 : tie.Need-put-member-requires-4
 put-member-requires-4 c κs =
     let second = c .before .before .before .before .before .before .before in
     room-second _ (c .before .before .before .put-member3 .ensures)
     (room-second _ (second .put-member2 .ensures) (room-second _ (second .before .before .before .before .put-member .ensures) (fits (second .before .before .before .before .before .before .before))))
 
--- src/lib.rt:130:1
 same-length : tie.Need-same-length
 same-length c = search needs
 
--- src/lib.rt:130:1
 returns : tie.Need-returns
 returns c =
     let second = c .before .before .before .before .before .before .before .before .before .before in

@@ -5,39 +5,28 @@ use Rattle.writers.proofs.Row.{member-stands, member-lacks}
 use borrow.Author.Needs.{needs}
 use Rattle.writers.proofs.put_member.Statement.{statement}
 use Rattle.writers.proofs.put_member.Tie as tie
-use Rattle.writers.proofs.put_member.Reads as reads
-use Rattle.writers.proofs.put_member.Lts as lts
-use Rattle.cells.proofs.has.Reads as has-reads
-use Rattle.writers.proofs.put_pair.Reads as put-pair-reads
-use Rattle.writers.proofs.put_perm.Reads as put-perm-reads
 
--- src/lib.rt:124:8
 has-requires : tie.Need-has-requires
 has-requires c κs = search needs
 
--- src/lib.rt:125:13
 put-pair-requires : tie.Need-put-pair-requires
 put-pair-requires c κs = room-first _ (rw (member-stands _ _ _ _ (sym (c .before .before .has .ensures) ∙ c .before .if1 .taken)) at (c .before .before .before .before .pre))
 
--- src/lib.rt:126:9
 put-perm-requires : tie.Need-put-perm-requires
 put-perm-requires c κs =
     let tested = c .before .before .before .before .before in
     room-second _ (c .before .before .before .put-pair .ensures)
     (rw (member-stands _ _ _ _ (sym (tested .before .has .ensures) ∙ tested .if1 .taken)) at (tested .before .before .before .pre))
 
--- src/lib.rt:126:9
 same-length : tie.Need-same-length
 same-length c = search needs
 
--- src/lib.rt:126:9
 returns : tie.Need-returns
 returns c =
     let tested = c .before .before .before .before .before .before .before .before in
     rw (member-stands _ _ _ _ (sym (tested .before .has .ensures) ∙ tested .if1 .taken))
     (put-both (c .before .before .before .before .before .before .put-pair .ensures) (c .before .before .put-perm .ensures))
 
--- src/lib.rt:120:1
 returns-2 : tie.Need-returns-2
 returns-2 c = rw (member-lacks _ _ _ _ (sym (c .before .has .ensures) ∙ c .if1 .left)) put-none
 

@@ -1,19 +1,14 @@
 -- `writers::put_row` meets its contract: the cells passed stand in the room. Assumes nothing.
-use Prim.Native.Nat.{_+_, _*_, _-_, _≤_}
+use Prim.Native.Nat.{_-_, _≤_}
 use native.Mathlib.Omega.{arith}
-use mathlib.Core.Path.{_≡_, sym}
-use lib.ListN.{length, length-append}
+use mathlib.Core.Path.{_≡_}
 use borrow.Author.Needs.{needs}
-use Rattle.writers.specs.Row.{cellText, rowUpTo}
+use Rattle.writers.specs.Row.{rowUpTo}
 use Rattle.printing.specs.Put.{Put}
 use Rattle.printing.proofs.Put.{put-none, put-both, put-length, room-second}
 use Rattle.writers.proofs.Row.{row-none, row-more, row-all, row-room}
 use Rattle.writers.proofs.put_row.Statement.{statement}
 use Rattle.writers.proofs.put_row.Tie as tie
-use Rattle.writers.proofs.put_row.Reads as reads
-use Rattle.writers.proofs.put_row.Lts as lts
-use Rattle.cells.proofs.cell.Reads as cell-reads
-use Rattle.writers.proofs.put_cell.Reads as put-cell-reads
 
 abbrev Inv-loop : tie.InvT-loop
 Inv-loop cells header row room₀ n at₀ to₀ room at to = (to ≤ n) × Put (rowUpTo header cells (row .0) to) room₀ 0 room at
@@ -21,15 +16,12 @@ Inv-loop cells header row room₀ n at₀ to₀ room at to = (to ≤ n) × Put (
 abbrev μ-loop : tie.MeasureT-loop
 μ-loop cells header row room₀ n at₀ to₀ room at to = n - to
 
--- src/lib.rt:148:5
 loop-holds : tie.Need-loop-holds Inv-loop μ-loop
 loop-holds c = (search needs, rw row-none put-none)
 
--- src/lib.rt:149:50
 cell-requires : tie.Need-cell-requires Inv-loop μ-loop
 cell-requires c κs = search needs
 
--- src/lib.rt:149:9
 put-cell-requires : tie.Need-put-cell-requires Inv-loop μ-loop
 put-cell-requires c κs =
     let turn = c .before .before .before in
@@ -37,25 +29,20 @@ put-cell-requires c κs =
     room-second _ (turn .loop .inv .1)
     (rw (← c .cell .ensures) at (row-room (start .args .header) (start .args .cells .now) (start .args .row .0) (turn .loop .to) (start .args .room .now) (c .before .before .loop-test .taken) (start .pre)))
 
--- src/lib.rt:150:9
 add-to : tie.Need-add-to Inv-loop μ-loop
 add-to c = search needs
 
--- src/lib.rt:148:5
 loop-less : tie.Need-loop-less Inv-loop μ-loop
 loop-less c = search needs
 
--- src/lib.rt:148:5
 loop-again : tie.Need-loop-again Inv-loop μ-loop
 loop-again c =
     let turn = c .before .before .before .before .before .before in
     (search needs, rw (row-more, ← c .before .before .before .cell .ensures) (put-both (turn .loop .inv .1) (c .before .before .put-cell .ensures)))
 
--- src/lib.rt:141:1
 same-length : tie.Need-same-length Inv-loop μ-loop
 same-length c = put-length (c .before .loop .inv .1)
 
--- src/lib.rt:141:1
 returns : tie.Need-returns Inv-loop μ-loop
 returns c =
     let a = c .before .before .before .before .args in

@@ -1,30 +1,22 @@
 -- `writers::row_refusal` meets its contract. Assumes nothing.
-use mathlib.Core.Path.{sym, _∙_}
-use borrow.Author.Tests.{eq-eqb, ne-eqb, lt-ltb, le-ltb}
+use borrow.Author.Tests.{ne-eqb, lt-ltb, le-ltb}
 use Rattle.rights.specs.Sound.{firstOf, unless}
 use Rattle.wording.specs.Writer.{rowRefusal}
 use borrow.Author.Needs.{needs}
 use Rattle.writers.proofs.row_refusal.Statement.{statement}
 use Rattle.writers.proofs.row_refusal.Tie as tie
-use Rattle.writers.proofs.row_refusal.Reads as reads
-use Rattle.writers.proofs.row_refusal.Lts as lts
-use Rattle.sound.proofs.register_refusal.Reads as register-refusal-reads
 
--- src/lib.rt:159:9
 register-refusal-requires : tie.Need-register-refusal-requires
 register-refusal-requires c κs = search needs
 
--- src/lib.rt:161:9
 returns : tie.Need-returns
 unfolding rowRefusal firstOf unless
 returns c = rw (← c .before .register-refusal .ensures, ne-eqb _ _ (c .if1 .taken))
 
--- src/lib.rt:156:1
 returns-2 : tie.Need-returns-2
 unfolding rowRefusal firstOf unless
 returns-2 c = rw (← c .before .before .before .before .register-refusal .ensures, c .before .before .before .if1 .left, lt-ltb _ _ (c .if2 .taken))
 
--- src/lib.rt:156:1
 returns-3 : tie.Need-returns-3
 unfolding rowRefusal firstOf unless
 returns-3 c = rw (← c .before .before .before .before .register-refusal .ensures, c .before .before .before .if1 .left, le-ltb _ _ (c .if2 .left))

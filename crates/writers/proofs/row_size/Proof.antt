@@ -1,5 +1,5 @@
 -- `writers::row_size` meets its contract: the cells passed are measured. Assumes nothing.
-use Prim.Native.Nat.{_+_, _*_, _-_, _≤_}
+use Prim.Native.Nat.{_*_, _-_, _≤_}
 use native.Mathlib.Omega.{arith}
 use mathlib.Core.Path.{_≡_, ap, _∙_}
 use lib.ListN.{length, length-append}
@@ -8,10 +8,6 @@ use Rattle.writers.specs.Row.{cellText, rowUpTo}
 use Rattle.writers.proofs.Row.{row-none, row-more, row-all}
 use Rattle.writers.proofs.row_size.Statement.{statement}
 use Rattle.writers.proofs.row_size.Tie as tie
-use Rattle.writers.proofs.row_size.Reads as reads
-use Rattle.writers.proofs.row_size.Lts as lts
-use Rattle.cells.proofs.cell.Reads as cell-reads
-use Rattle.writers.proofs.cell_size.Reads as cell-size-reads
 
 abbrev Inv-loop : tie.InvT-loop
 Inv-loop cells header row n size₀ to₀ size to = (to ≤ n) × (size ≡ length (rowUpTo header cells (row .0) to)) × (size ≤ 144 * to)
@@ -19,31 +15,24 @@ Inv-loop cells header row n size₀ to₀ size to = (to ≤ n) × (size ≡ leng
 abbrev μ-loop : tie.MeasureT-loop
 μ-loop cells header row n size₀ to₀ size to = n - to
 
--- src/lib.rt:93:5
 loop-holds : tie.Need-loop-holds Inv-loop μ-loop
 loop-holds c = (search needs, rw row-none, search needs)
 
--- src/lib.rt:94:44
 cell-requires : tie.Need-cell-requires Inv-loop μ-loop
 cell-requires c κs = search needs
 
--- src/lib.rt:94:17
 cell-size-requires : tie.Need-cell-size-requires Inv-loop μ-loop
 cell-size-requires c κs = search needs
 
--- src/lib.rt:94:9
 add-size : tie.Need-add-size Inv-loop μ-loop
 add-size c = search needs
 
--- src/lib.rt:95:9
 add-to : tie.Need-add-to Inv-loop μ-loop
 add-to c = search needs
 
--- src/lib.rt:93:5
 loop-less : tie.Need-loop-less Inv-loop μ-loop
 loop-less c = search needs
 
--- src/lib.rt:93:5
 loop-again : tie.Need-loop-again Inv-loop μ-loop
 loop-again c =
     let turn = c .before .before .before in
@@ -51,7 +40,6 @@ loop-again c =
     let more = length-append (rowUpTo (start .header) (start .cells .now) (start .row .0) (turn .loop .to)) (cellText (start .row .0) (turn .loop .to) (c .before .cell .result)) in
     (search needs, rw (row-more, ← c .before .cell .ensures) (omega arith), search needs)
 
--- src/lib.rt:87:1
 returns : tie.Need-returns Inv-loop μ-loop
 returns c =
     let end : c .before .loop .to ≡ c .before .before .before .args .header .n = omega arith in

@@ -11,10 +11,6 @@ use Rattle.printing.proofs.Told.{told-refused}
 use borrow.Author.Needs.{needs}
 use Rattle.writers.proofs.write_header.Statement.{statement}
 use Rattle.writers.proofs.write_header.Tie as tie
-use Rattle.writers.proofs.write_header.Reads as reads
-use Rattle.writers.proofs.write_header.Lts as lts
-use Rattle.cells.proofs.headed.Reads as headed-reads
-use Rattle.printing.proofs.write_three.Reads as write-three-reads
 use mathlib.Core.Path.{_≡_, sym, _∙_}
 use borrow.Author.Tests.{not-true, not-false}
 use Rattle.rights.specs.declared.Header.{Header}
@@ -26,48 +22,37 @@ header-text :
 unfolding headerText linesText headerLines headerValues lineText key form wordOf numberLine
 header-text h = rw append-nil
 
--- src/lib.rt:172:9
 headed-requires : tie.Need-headed-requires
 headed-requires c κs = search needs
 
--- src/lib.rt:173:9
 returns : tie.Need-returns
 unfolding headerWritten unless
 returns c = rw (sym (c .before .headed .ensures) ∙ not-true _ (c .if1 .taken)) (told-refused 1 _ _ (λ z. omega arith))
 
--- src/lib.rt:175:13
 cast-n : tie.Need-cast-n
 cast-n c = search needs
 
--- src/lib.rt:176:15
 cast-soa : tie.Need-cast-soa
 cast-soa c = search needs
 
--- src/lib.rt:177:17
 cast-layer : tie.Need-cast-layer
 cast-layer c = search needs
 
--- src/lib.rt:178:17
 slice-aggregate-write-three : tie.Need-slice-aggregate-write-three
 slice-aggregate-write-three c = search needs
 
--- src/lib.rt:178:27
 slice-aggregate-write-three-2 : tie.Need-slice-aggregate-write-three-2
 slice-aggregate-write-three-2 c = search needs
 
--- src/lib.rt:178:41
 slice-aggregate-write-three-3 : tie.Need-slice-aggregate-write-three-3
 slice-aggregate-write-three-3 c = search needs
 
--- src/lib.rt:178:5
 write-three-requires : tie.Need-write-three-requires
 write-three-requires c κs = search needs
 
--- src/lib.rt:169:1
 same-length : tie.Need-same-length
 same-length c = search needs
 
--- src/lib.rt:169:1
 returns-2 : tie.Need-returns-2
 unfolding headerWritten unless
 returns-2 c =

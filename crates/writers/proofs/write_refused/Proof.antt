@@ -3,27 +3,19 @@ use Rattle.writers.specs.Answers.{refusedText, refusedWritten}
 use borrow.Author.Needs.{needs}
 use Rattle.writers.proofs.write_refused.Statement.{statement}
 use Rattle.writers.proofs.write_refused.Tie as tie
-use Rattle.writers.proofs.write_refused.Reads as reads
-use Rattle.writers.proofs.write_refused.Lts as lts
-use Rattle.printing.proofs.write_two.Reads as write-two-reads
 
--- src/lib.rt:200:15
 slice-aggregate-write-two : tie.Need-slice-aggregate-write-two
 slice-aggregate-write-two c = search needs
 
--- src/lib.rt:200:43
 slice-aggregate-write-two-2 : tie.Need-slice-aggregate-write-two-2
 slice-aggregate-write-two-2 c = search needs
 
--- src/lib.rt:200:5
 write-two-requires : tie.Need-write-two-requires
 write-two-requires c κs = search needs
 
--- src/lib.rt:197:1
 same-length : tie.Need-same-length
 same-length c = search needs
 
--- src/lib.rt:197:1
 returns : tie.Need-returns
 unfolding refusedWritten refusedText
 returns c = c .before .before .write-two .ensures

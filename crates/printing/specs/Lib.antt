@@ -2,3 +2,4 @@
 pub mod Put
 pub mod Told
 pub mod NumberLine
+pub mod Answers

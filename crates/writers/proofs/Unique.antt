@@ -8,8 +8,6 @@ use Rattle.printing.proofs.Unique.{told-once}
 use Rattle.writers.proofs.write_header.Reads as write-header
 use Rattle.writers.proofs.write_row.Reads as write-row
 use Rattle.writers.proofs.write_end.Reads as write-end
-use Rattle.writers.proofs.write_answer.Reads as write-answer
-use Rattle.writers.proofs.write_refused.Reads as write-refused
 
 pub write-header-once :
     (κs : _) (a : _) (r s : Written) (exit other : _) → write-header.Post κs a r exit → write-header.Post κs a s other →
@@ -25,13 +23,3 @@ pub write-end-once :
     (κs : _) (a : _) (r s : Written) (exit other : _) → write-end.Post κs a r exit → write-end.Post κs a s other →
     (r ≡ s) × (now (exit .0) ≡ now (other .0))
 write-end-once κs a r s exit other p q = told-once p q
-
-pub write-answer-once :
-    (κs : _) (a : _) (r s : Written) (exit other : _) → write-answer.Post κs a r exit → write-answer.Post κs a s other →
-    (r ≡ s) × (now (exit .1 .1 .1 .0) ≡ now (other .1 .1 .1 .0))
-write-answer-once κs a r s exit other p q = told-once p q
-
-pub write-refused-once :
-    (κs : _) (a : _) (r s : Written) (exit other : _) → write-refused.Post κs a r exit → write-refused.Post κs a s other →
-    (r ≡ s) × (now (exit .1 .1 .0) ≡ now (other .1 .1 .0))
-write-refused-once κs a r s exit other p q = told-once p q

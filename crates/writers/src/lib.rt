@@ -1,5 +1,4 @@
-// The writers of a register's text, by header, rows and end line, and of what the program answers. Each leaves a room that is too
-// small as it was.
+// The writers of a register's text: header, rows and end line. Each leaves a room that is too small as it was.
 use printing::Written;
 use rights::Header;
 use rights::Office;
@@ -12,7 +11,6 @@ ghost use Rattle.wording.specs.Writer.{rowRefusal, headerWritten, rowWritten, e
 ghost use Rattle.printing.specs.Put.{Room, Put};
 ghost use Rattle.printing.specs.Told.{Told};
 ghost use Rattle.writers.specs.Row.{pairText, permText, memberText, cellText};
-ghost use Rattle.writers.specs.Answers.{answerWritten, refusedWritten};
 
 // The header of a register.
 pub fn write_header(header: Header, room: &mut [u8]) -> Written
@@ -32,28 +30,6 @@ pub fn write_end(room: &mut [u8]) -> Written
     ensures { λ r. ⌜ Told (endWritten (now (room .entry))) r (now (room .exit)) ⌝ }
 {
     printing::write_bytes(b"end=register\n", room)
-}
-
-// What a command answered, and how many records it removed and added.
-pub fn write_answer(answer: u8, removed: u32, added: u32, room: &mut [u8]) -> Written
-    ensures { λ r. ⌜ Told (answerWritten answer removed added (now (room .entry))) r (now (room .exit)) ⌝ }
-{
-    printing::write_three(
-        b"answer=",
-        answer as u32,
-        b"removed=",
-        removed,
-        b"added=",
-        added,
-        room,
-    )
-}
-
-// The refusal of an input, and where in it the first bad line starts.
-pub fn write_refused(number: u8, at: u32, room: &mut [u8]) -> Written
-    ensures { λ r. ⌜ Told (refusedWritten number at (now (room .entry))) r (now (room .exit)) ⌝ }
-{
-    printing::write_two(b"refused=", number as u32, b"at=", at, room)
 }
 
 // The line of a record's permission.

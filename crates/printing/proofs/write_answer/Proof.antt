@@ -1,8 +1,8 @@
--- `writers::write_answer` meets its contract. Assumes nothing.
-use Rattle.writers.specs.Answers.{answerText, answerWritten}
+-- `printing::write_answer` meets its contract. Assumes nothing.
+use Rattle.printing.specs.Answers.{answerText, answerWritten}
 use borrow.Author.Needs.{needs}
-use Rattle.writers.proofs.write_answer.Statement.{statement}
-use Rattle.writers.proofs.write_answer.Tie as tie
+use Rattle.printing.proofs.write_answer.Statement.{statement}
+use Rattle.printing.proofs.write_answer.Tie as tie
 
 slice-aggregate-write-three : tie.Need-slice-aggregate-write-three
 slice-aggregate-write-three c = search needs

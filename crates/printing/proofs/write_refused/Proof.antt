@@ -1,8 +1,8 @@
--- `writers::write_refused` meets its contract. Assumes nothing.
-use Rattle.writers.specs.Answers.{refusedText, refusedWritten}
+-- `printing::write_refused` meets its contract. Assumes nothing.
+use Rattle.printing.specs.Answers.{refusedText, refusedWritten}
 use borrow.Author.Needs.{needs}
-use Rattle.writers.proofs.write_refused.Statement.{statement}
-use Rattle.writers.proofs.write_refused.Tie as tie
+use Rattle.printing.proofs.write_refused.Statement.{statement}
+use Rattle.printing.proofs.write_refused.Tie as tie
 
 slice-aggregate-write-two : tie.Need-slice-aggregate-write-two
 slice-aggregate-write-two c = search needs

@@ -1,5 +1,5 @@
-// The texts that are made of lines, written into a room that is lent: each is measured first, so that a room that is too small
-// is left as it was.
+// Numbers and lines written into a room that is lent. What is written by a public function is measured first, so that a room that
+// is too small is left as it was; the functions below those ask for the room.
 ghost use mathlib.Core.Path.{_≡_};
 ghost use mathlib.Core.List.{[], _∷_, _++_};
 ghost use Prim.Native.Nat.{_≤_};
@@ -97,8 +97,8 @@ pub fn write_bytes(text: &[u8], room: &mut [u8]) -> Written
     Written { answer: 0, size }
 }
 
-// Writes two lines, if there is room for them. Each is measured by what the others leave, since the sum of the lengths of slices
-// need not be a length.
+// Writes two lines, if there is room for them. Each is held against what the one before it leaves, since the lengths of two
+// slices may have no sum.
 pub fn write_two(a: &[u8], x: u32, b: &[u8], y: u32, room: &mut [u8]) -> Written
     ensures { λ r. ⌜ Told (writtenBehind 0 (now (room .entry)) (numberLine (now (a .entry)) x ++ numberLine (now (b .entry)) y)) r (now (room .exit)) ⌝ }
 {

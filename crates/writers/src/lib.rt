@@ -25,14 +25,14 @@ pub fn write_header(header: Header, room: &mut [u8]) -> Written
     printing::write_three(b"n=", n, b"soa=", soa, b"layer=", layer, room)
 }
 
-// 'Header and end line have writers too, by the same rule (1 and 14; 14).'
+// The line behind the last row.
 pub fn write_end(room: &mut [u8]) -> Written
     ensures { λ r. ⌜ Told (endWritten (now (room .entry))) r (now (room .exit)) ⌝ }
 {
     printing::write_bytes(b"end=register\n", room)
 }
 
-// The line of a record's permission.
+// The line of a record's permission. A number that is no code is read as FF, as in a cell.
 fn perm_line(perm: u8) -> [u8; 8]
     ensures { λ r. ⌜ r ≡ permText (decoded perm) ⌝ }
 {
@@ -140,9 +140,9 @@ fn put_row(cells: &[u8], header: Header, row: Office, room: &mut [u8]) -> usize
 fn row_refusal(cells: &[u8], header: Header, row: Office) -> u8
     ensures { λ r. ⌜ r ≡ rowRefusal header (now (cells .entry)) (row .0) ⌝ }
 {
-    let refusal = sound::register_refusal(cells, header);
-    if refusal != 0 {
-        return refusal;
+    let register = sound::register_refusal(cells, header);
+    if register != 0 {
+        return register;
     }
     if row.0 < header.n { 0 } else { 6 }
 }

@@ -1,19 +1,19 @@
 -- The checks of the register reader behind 13: what it means that none of them refuses, and that none refuses a sound register.
-use Prim.Native.Nat.{ℕ, _*_, _≤_, _<_}
+use Prim.Native.Nat.{ℕ, suc, _*_, _≤_, _<_}
 use mathlib.Core.Path.{_≡_, refl, sym, ap, _∙_}
-use mathlib.Core.Bool.{Bool, true, false, _&&_, _||_, not, cond, or-true}
+use mathlib.Core.Bool.{Bool, true, false, _&&_, _||_, not, or-true}
 use mathlib.Core.List.{List, _∷_}
 use native.Mathlib.Omega.{arith}
-use lib.Dec.{eqb, ltb, leb}
+use lib.Dec.{eqb, ltb, leb, eqb·suc-zero}
 use lib.ListN.{length}
-use borrow.Author.Tests.{ltb-true, ltb-false, leb-true, eqb-true, lt-ltb, le-ltb, not-false}
+use borrow.Author.Tests.{ltb-true, leb-true, eqb-true, lt-ltb, le-leb, not-true, not-false}
 use Rattle.rights.specs.declared.Header.{Header}
 use Rattle.rights.specs.Below.{allBelow}
 use Rattle.rights.specs.Permission.{Permission, code, decoded}
 use Rattle.rights.specs.Cell.{has}
 use Rattle.rights.specs.Register.{cell, soaOf}
 use Rattle.rights.specs.Level.{levels}
-use Rattle.rights.specs.Sound.{headed, whole, sound, soundBy, soundCell, barred}
+use Rattle.rights.specs.Sound.{headed, whole, sound, soundBy, soundCell, barred, firstOf, unless}
 use Rattle.wording.specs.Records.{Record}
 use Rattle.wording.specs.RegisterReader.{Content, anyRecord, outside, forbidden, filled, contentRefusal}
 use Rattle.theory.proofs.Tests.{left-of, right-of}
@@ -24,10 +24,16 @@ use Rattle.wording.proofs.Order.{Ascending, none, more, stands, stands-
 use Rattle.wording.proofs.CellRecords.{allRecords, all-ascending, stands-all}
 use Rattle.wording.proofs.Filled.{filled-all}
 
--- a refusal that is not given
-off : (t : Bool) (k x : ℕ) → 1 ≤ k → cond t k x ≡ 0 → (t ≡ false) × (x ≡ 0)
-off true k x h e = let z : ⊥ = omega arith in absurd z
-off false k x h e = (refl, e)
+-- a refusal that is not given, as the last one and before others
+passed : (t : Bool) (k : ℕ) → unless t (suc k) ≡ 0 → t ≡ true
+unfolding unless
+passed true k e = refl
+passed false k e = let z : suc k ≡ 0 = e in absurd (omega arith)
+
+off : (t : Bool) (k x : ℕ) → firstOf (unless t (suc k)) x ≡ 0 → (t ≡ true) × (x ≡ 0)
+unfolding firstOf unless
+off true k x e = (refl, e)
+off false k x e = let z : suc k ≡ 0 = rw (eqb·suc-zero k) at e in absurd (omega arith)
 
 -- no check behind 13 refuses the content
 pub record Accepted (t : Content) (size : ℕ) : Type 0 where
@@ -40,23 +46,22 @@ pub record Accepted (t : Content) (size : ℕ) : Type 0 where
 pub accepted : (t : Content) (size : ℕ) → contentRefusal t size ≡ 0 → Accepted t size
 unfolding contentRefusal
 accepted t size e =
-    let one = off (not (headed (t .header))) 1 _ (omega arith) e in
-    let two = off (ltb size (t .header .n * t .header .n)) 2 _ (omega arith) (one .1) in
-    let six = off (anyRecord (outside (t .header)) (t .records)) 6 _ (omega arith) (two .1) in
-    let seven = off (anyRecord (forbidden (t .header)) (t .records)) 7 _ (omega arith) (six .1) in
-    let three = off (not (sound (t .header) (filled (t .header) (t .records)))) 3 _ (omega arith) (seven .1) in
+    let one = off (headed (t .header)) 0 _ e in
+    let two = off (leb (t .header .n * t .header .n) size) 1 _ (one .1) in
+    let six = off (not (anyRecord (outside (t .header)) (t .records))) 5 _ (two .1) in
+    let seven = off (not (anyRecord (forbidden (t .header)) (t .records))) 6 _ (six .1) in
     record {
-      headed-ok = not-false _ (one .0);
-      room-ok = ltb-false size (t .header .n * t .header .n) (two .0);
-      inside-ok = six .0;
-      allowed-ok = seven .0;
-      sound-ok = not-false _ (three .0);
+      headed-ok = one .0;
+      room-ok = leb-true (t .header .n * t .header .n) size (two .0);
+      inside-ok = not-true _ (six .0);
+      allowed-ok = not-true _ (seven .0);
+      sound-ok = passed (sound (t .header) (filled (t .header) (t .records))) 2 (seven .1);
     }
 
 pub not-refused : (t : Content) (size : ℕ) → Accepted t size → contentRefusal t size ≡ 0
-unfolding contentRefusal
+unfolding contentRefusal firstOf unless
 not-refused t size a =
-    rw (a .headed-ok, le-ltb size (t .header .n * t .header .n) (a .room-ok), a .inside-ok, a .allowed-ok, a .sound-ok)
+    rw (a .headed-ok, le-leb (t .header .n * t .header .n) size (a .room-ok), a .inside-ok, a .allowed-ok, a .sound-ok)
 
 pub headed-small : (h : Header) → headed h ≡ true → h .n ≤ 128
 unfolding headed

@@ -10,7 +10,7 @@ use Rattle.rights.specs.Permission.{code, decoded, anyPermission, stronger, ser
 use Rattle.rights.specs.Cell.{has, cellOf, carries, union, lowered, restrict}
 use Rattle.rights.specs.Register.{cell, register}
 use Rattle.rights.specs.Level.{isIn, linked, reached, levelsAmong, everyOffice, levels, levelIn}
-use Rattle.rights.specs.Sound.{headed, sound, soundBy, soundCell, barred}
+use Rattle.rights.specs.Sound.{headed, sound, soundBy, soundCell, barred, firstOf, unless}
 use Rattle.rights.specs.Restriction.{isCell}
 use Rattle.rights.specs.Deletion.{grantedCell, granted}
 use Rattle.wording.specs.Word.{bytes, key, form, acts, perms, wordFor, endText}
@@ -95,5 +95,5 @@ pub examples :
     (commandText cutCommand ≡ cut) ×
     (commandRead mapC ≡ record { answer = 13; at = 0; command = noCommand; next = length mapC; rest = [] }) ×
     (map readSo refusedTexts ≡ map refusedSo refusedTexts)
-unfolding anyBelow allBelow table code decoded anyPermission stronger serves has cellOf carries union lowered restrict cell register isIn linked reached levelsAmong everyOffice levels levelIn headed sound soundBy soundCell barred isCell grantedCell granted key form acts perms wordFor endText afterWord isDigit extended goesOn digits number chosen valueOf behindKey lineOf numeralBy numeral wordOf lineText offset andBefore linesOf linesText headerLines headerOf headerValues headerText commandLines commandOf commandValues commandText first recordText recordsText byMay toMay permMay withPerm withTo withBy recordFrom recordsFrom joined recordOf cellRecords rowRecords rowText registerText withHeader behindHeader contentOf anyRecord outside forbidden nothing added filled contentRefusal noHeader registerDone registerRefused judged registerRead commandJudged commandRead noCommand
+unfolding anyBelow allBelow table code decoded anyPermission stronger serves has cellOf carries union lowered restrict cell register isIn linked reached levelsAmong everyOffice levels levelIn headed sound soundBy soundCell barred firstOf unless isCell grantedCell granted key form acts perms wordFor endText afterWord isDigit extended goesOn digits number chosen valueOf behindKey lineOf numeralBy numeral wordOf lineText offset andBefore linesOf linesText headerLines headerOf headerValues headerText commandLines commandOf commandValues commandText first recordText recordsText byMay toMay permMay withPerm withTo withBy recordFrom recordsFrom joined recordOf cellRecords rowRecords rowText registerText withHeader behindHeader contentOf anyRecord outside forbidden nothing added filled contentRefusal noHeader registerDone registerRefused judged registerRead commandJudged commandRead noCommand
 examples = (refl, refl, refl, refl, refl, refl)

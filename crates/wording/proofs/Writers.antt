@@ -8,7 +8,7 @@ use lib.ListN.{length, take, drop, replicate, length-append, length-drop}
 use lib.Seq.{take-append-seam, drop-append-seam, drop-drop}
 use borrow.Author.Tests.{lt-ltb, le-ltb}
 use Rattle.rights.specs.declared.Header.{Header}
-use Rattle.rights.specs.Sound.{headed, whole, sound}
+use Rattle.rights.specs.Sound.{headed, whole, sound, firstOf, unless, registerRefusal}
 use Rattle.wording.specs.Word.{endText}
 use Rattle.wording.specs.Lines.{headerText}
 use Rattle.wording.specs.Records.{joined, rowText, registerText}
@@ -57,7 +57,7 @@ put-behind write bytes text next writes fits =
     simp (take-append-seam, drop-append-seam, writes (drop (length text) bytes) room, length-append, append-assoc, drop-drop)
 
 pub header-written : (h : Header) (room : List ℕ) → headed h ≡ true → length (headerText h) ≤ length room → headerWritten h room ≡ written room (headerText h)
-unfolding headerWritten
+unfolding headerWritten unless
 header-written h room head fits = rw head (room-enough room (headerText h) fits)
 
 pub end-written : (room : List ℕ) → length endText ≤ length room → endWritten room ≡ written room endText
@@ -67,7 +67,7 @@ end-written room fits = room-enough room endText fits
 pub row-written :
     (h : Header) (R : List ℕ) (i : ℕ) (room : List ℕ) → headed h ≡ true → whole h R ≡ true → sound h R ≡ true → i < h .n →
     length (rowText h R i) ≤ length room → rowWritten h R i room ≡ written room (rowText h R i)
-unfolding rowWritten rowRefusal
+unfolding rowWritten rowRefusal registerRefusal firstOf unless
 row-written h R i room head full tested below fits = rw (head, full, tested, lt-ltb i (h .n) below) (room-enough room (rowText h R i) fits)
 
 module _ (h : Header) (R bytes : List ℕ) (head : headed h ≡ true) (full : whole h R ≡ true) (tested : sound h R ≡ true) where

@@ -3,11 +3,11 @@ use Prim.Native.Nat.{ℕ, _*_, _-_}
 use mathlib.Core.Bool.{Bool, false, _&&_, _||_, not, cond}
 use mathlib.Core.List.{List, [], _∷_, _++_}
 use lib.ListN.{length, replicate}
-use lib.Dec.{eqb, ltb}
+use lib.Dec.{eqb, ltb, leb}
 use Rattle.rights.specs.declared.Header.{Header}
 use Rattle.rights.specs.Permission.{decoded}
 use Rattle.rights.specs.Register.{register}
-use Rattle.rights.specs.Sound.{headed, sound, barred}
+use Rattle.rights.specs.Sound.{headed, sound, barred, firstOf, unless}
 use Rattle.rights.specs.Deletion.{granted}
 use Rattle.wording.specs.Lines.{Reading, got, badAt, offset, linesOf, headerLines, headerOf}
 use Rattle.wording.specs.Records.{Record, first, recordsFrom}
@@ -58,11 +58,11 @@ filled h rs = added h (register h nothing) rs
 -- shorter' than n·n; size is the length of the register buffer.
 unfoldable pub contentRefusal : Content → ℕ → ℕ
 contentRefusal t size =
-    cond (not (headed (t .header))) 1
-    (cond (ltb size (t .header .n * t .header .n)) 2
-    (cond (anyRecord (outside (t .header)) (t .records)) 6
-    (cond (anyRecord (forbidden (t .header)) (t .records)) 7
-    (cond (not (sound (t .header) (filled (t .header) (t .records)))) 3 0))))
+    firstOf (unless (headed (t .header)) 1)
+    (firstOf (unless (leb (t .header .n * t .header .n) size) 2)
+    (firstOf (unless (not (anyRecord (outside (t .header)) (t .records))) 6)
+    (firstOf (unless (not (anyRecord (forbidden (t .header)) (t .records))) 7)
+    (unless (sound (t .header) (filled (t .header) (t .records))) 3))))
 
 -- what the register reader answers and leaves: the rest is the caller's text from the byte `next` on
 pub record RegisterRead : Type 0 where

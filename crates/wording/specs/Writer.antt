@@ -5,7 +5,7 @@ use mathlib.Core.List.{List, _++_}
 use lib.ListN.{length, drop}
 use lib.Dec.{eqb, ltb}
 use Rattle.rights.specs.declared.Header.{Header}
-use Rattle.rights.specs.Sound.{headed, whole, sound}
+use Rattle.rights.specs.Sound.{headed, firstOf, unless, registerRefusal}
 use Rattle.wording.specs.Word.{endText}
 use Rattle.wording.specs.Lines.{headerText}
 use Rattle.wording.specs.Records.{rowText}
@@ -31,11 +31,7 @@ writtenBehind refusal room text =
 
 -- 'The row writer checks 1, 2, 3, 6, then 14'
 unfoldable pub rowRefusal : Header → List ℕ → ℕ → ℕ
-rowRefusal h R i =
-    cond (not (headed h)) 1
-    (cond (not (whole h R)) 2
-    (cond (not (sound h R)) 3
-    (cond (not (ltb i (h .n))) 6 0)))
+rowRefusal h R i = firstOf (registerRefusal h R) (unless (ltb i (h .n)) 6)
 
 -- the one outcome of writing row i
 unfoldable pub rowWritten : Header → List ℕ → ℕ → List ℕ → Written
@@ -43,7 +39,7 @@ rowWritten h R i room = writtenBehind (rowRefusal h R i) room (rowText h R i)
 
 -- 'Header and end line have writers too, by the same rule (1 and 14; 14).'
 unfoldable pub headerWritten : Header → List ℕ → Written
-headerWritten h room = writtenBehind (cond (not (headed h)) 1 0) room (headerText h)
+headerWritten h room = writtenBehind (unless (headed h) 1) room (headerText h)
 
 unfoldable pub endWritten : List ℕ → Written
 endWritten room = writtenBehind 0 room endText

@@ -1,0 +1,51 @@
+-- `printing::write_two` meets its contract. Assumes nothing.
+use native.Mathlib.Omega.{arith}
+use lib.ListN.{length-append}
+use Rattle.printing.proofs.Put.{put-both}
+use Rattle.printing.proofs.Told.{told-short, told-done}
+use borrow.Author.Needs.{needs}
+use Rattle.printing.proofs.write_two.Statement.{statement}
+use Rattle.printing.proofs.write_two.Tie as tie
+
+line-size-requires : tie.Need-line-size-requires
+line-size-requires c κs = search needs
+
+returns : tie.Need-returns
+returns c = told-short _ _ (simp length-append (omega arith))
+
+sub-if2 : tie.Need-sub-if2
+sub-if2 c = search needs
+
+line-size-requires-2 : tie.Need-line-size-requires-2
+line-size-requires-2 c κs = search needs
+
+returns-2 : tie.Need-returns-2
+returns-2 c = told-short _ _ (simp length-append (omega arith))
+
+put-line-requires : tie.Need-put-line-requires
+put-line-requires c κs = search needs
+
+put-line-requires-2 : tie.Need-put-line-requires-2
+put-line-requires-2 c κs = search needs
+
+same-length : tie.Need-same-length
+same-length c = search needs
+
+returns-3 : tie.Need-returns-3
+returns-3 c =
+    told-done (record { enough = simp length-append (omega arith) })
+    (put-both (c .before .before .before .before .before .before .put-line .ensures) (c .before .before .put-line2 .ensures))
+
+pub write-two-spec : {M : Type 1} → statement M
+write-two-spec =
+    tie.close
+    (tie.spec
+    line-size-requires
+    returns
+    sub-if2
+    line-size-requires-2
+    returns-2
+    put-line-requires
+    put-line-requires-2
+    same-length
+    returns-3)

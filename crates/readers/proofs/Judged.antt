@@ -1,13 +1,14 @@
 -- The register reader's outcome, from what it read and found. Assumes nothing.
 use Prim.Native.Nat.{ℕ, _*_, _-_, _≤_}
 use mathlib.Core.Path.{_≡_, refl, sym, ap, _∙_}
-use mathlib.Core.Bool.{Bool, true, false}
+use mathlib.Core.Bool.{Bool, true, false, not, cond}
 use mathlib.Core.List.{List, [], _∷_, _++_}
 use native.Mathlib.Omega.{arith}
 use lib.Dec.{ltb}
 use lib.ListN.{length, drop, replicate, length-replicate}
-use borrow.Author.Tests.{ltb-false, eq-eqb, ne-eqb}
+use borrow.Author.Tests.{ltb-true, ltb-false, lt-leb, le-leb, eq-eqb, ne-eqb}
 use Rattle.rights.specs.declared.Header.{Header}
+use Rattle.rights.specs.Sound.{headed, sound, firstOf, unless}
 use Rattle.wording.specs.Lines.{Reading, got, badAt, offset, linesOf, linesText, headerLines, headerOf}
 use Rattle.wording.specs.Records.{Record, first, recordsFrom}
 use Rattle.wording.specs.RegisterReader.{withHeader, behindHeader, contentOf, anyRecord, outside, forbidden, filled, contentRefusal, registerDone, registerRefused, judged, registerRead}
@@ -30,6 +31,19 @@ unfolding stored
 all-stored-length h cells [] = refl
 all-stored-length h cells (r ∷ rs) = all-stored-length h (storedOne h cells r) rs ∙ stored-length h cells r
 
+-- refusals in order, as tests one after the other
+in-order :
+    (a b c d e : Bool) →
+    firstOf (unless a 1) (firstOf (unless b 2) (firstOf (unless (not c) 6) (firstOf (unless (not d) 7) (unless e 3)))) ≡
+    cond (not a) 1 (cond (not b) 2 (cond c 6 (cond d 7 (cond (not e) 3 0))))
+unfolding firstOf unless
+in-order false b c d e = refl
+in-order true false c d e = refl
+in-order true true true d e = refl
+in-order true true false true e = refl
+in-order true true false false true = refl
+in-order true true false false false = refl
+
 -- what is refused of a text's records is what is refused of the buffer with them
 content-refusal :
     {m lo hi : ℕ} (h : Header) (rs : List Record) (size : ℕ) → Ascending m lo hi rs →
@@ -44,8 +58,10 @@ content-refusal h rs size a = go (ltb size (h .n * h .n)) refl
     go : (t : Bool) → ltb size (h .n * h .n) ≡ t →
         contentRefusal (record { header = h; records = rs }) size ≡
         refusalOf h (stored h (replicate size 0) rs) (anyRecord (outside h) rs) (anyRecord (forbidden h) rs)
-    go true e = rw (long, e) refl
-    go false e = rw (long, e, register-part h size (ltb-false size (h .n * h .n) e) a) refl
+    go true e = rw (long, e, lt-leb (h .n * h .n) size (ltb-true size (h .n * h .n) e)) (in-order (headed h) false (anyRecord (outside h) rs) (anyRecord (forbidden h) rs) (sound h (filled h rs)))
+    go false e =
+        rw (long, e, register-part h size (ltb-false size (h .n * h .n) e) a, le-leb (h .n * h .n) size (ltb-false size (h .n * h .n) e))
+        (in-order (headed h) true (anyRecord (outside h) rs) (anyRecord (forbidden h) rs) (sound h (filled h rs)))
 
 -- a register that is read, with the rest from the byte `next` on
 abbrev pub done : Header → ℕ → RegisterRead

@@ -1,7 +1,7 @@
 -- What a writer answers, as code gives it: the number and the length as its result, the room as it leaves it.
+use Prim.Native.Nat.{ℕ}
 use mathlib.Core.Path.{_≡_}
 use mathlib.Core.List.{List}
-use Prim.Native.Nat.{ℕ}
 use Rattle.wording.specs.Writer.{Written as Outcome}
 use Rattle.printing.specs.declared.Written.{Written}
 

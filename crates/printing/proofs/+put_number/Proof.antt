@@ -1,137 +1,86 @@
--- `printing::put_number` meets its contract: the digits before the last one are a number of their own. Assumes nothing.
+-- `printing::put_number` meets its contract. It calls itself with the digits before the last one, which are a number of their own,
+-- so the measure is the number. Assumes nothing.
+use Prim.Native.Nat.{ℕ, _<_}
 use native.Mathlib.Omega.{arith}
 use borrow.Author.Needs.{needs}
+use borrow.Fn.Kinds.{In}
+use borrow.Fn.PlainCycle.{Measures, is, falls, and}
 use Rattle.wording.proofs.Number.{numeral-digit, numeral-more}
 use Rattle.printing.proofs.Put.{put-both}
 use Rattle.printing.proofs.Number.{one-digit, more-digits}
-use Prim.Native.Nat.{ℕ, _<_}
-use borrow.Fn.Kinds.{In}
-use borrow.Fn.PlainCycle.{Measures, is, falls, and}
 use Rattle.printing.proofs.put_number.Reads as put-number
 use Rattle.printing.proofs.put_number.Kinds as put-number-kinds
 use Rattle.printing.proofs.+put_number.Lts-put_number as put-number-lts
-use Rattle.printing.proofs.put_byte.Reads as put-byte-reads
+use Rattle.printing.proofs.put_byte.Reads as put-byte
 use Rattle.printing.proofs.+put_number.{statement}
 use Rattle.printing.proofs.+put_number.Tie.{close}
 
 abbrev μ-put-number : Measures 1 put-number-kinds.ps ℕ
 μ-put-number κs a = a .1 .1 .0
 
+-- what `put_number` is given at the measure t, and what a call of it asks below t
 abbrev put-number-at : ℕ → In 1 put-number-kinds.ps
-put-number-at t =
-    and 1 put-number-kinds.ps (is 1 put-number-kinds.ps μ-put-number t) put-number.Pre
+put-number-at t = and 1 put-number-kinds.ps (is 1 put-number-kinds.ps μ-put-number t) put-number.Pre
 
 abbrev put-number-below : ℕ → In 1 put-number-kinds.ps
-put-number-below t =
-    and 1 put-number-kinds.ps (falls 1 put-number-kinds.ps _<_ μ-put-number t) put-number.Pre
+put-number-below t = and 1 put-number-kinds.ps (falls 1 put-number-kinds.ps _<_ μ-put-number t) put-number.Pre
 
-put-number-cast-put-byte : (t : ℕ) → put-number-lts.Need-cast-put-byte (
-  put-byte-reads.Asked,
-  put-byte-reads.Learnt,
-  put-number-below t,
-  put-number.Post,
-) (put-number-at t) put-number.Post
-put-number-cast-put-byte t c = omega arith
+-- what each call asks and gives, a call of `put_number` itself below the measure t
+abbrev calls : ℕ → put-number-lts.Claims
+calls t = (put-byte.Asked, put-byte.Learnt, put-number-below t, put-number.Post)
 
-put-number-add-put-byte : (t : ℕ) → put-number-lts.Need-add-put-byte (
-  put-byte-reads.Asked,
-  put-byte-reads.Learnt,
-  put-number-below t,
-  put-number.Post,
-) (put-number-at t) put-number.Post
-put-number-add-put-byte t c = omega arith
+module _ (t : ℕ) where
+  cast-put-byte : put-number-lts.Need-cast-put-byte (calls t) (put-number-at t) put-number.Post
+  cast-put-byte c = omega arith
 
-put-number-put-byte-requires : (t : ℕ) → put-number-lts.Need-put-byte-requires (
-  put-byte-reads.Asked,
-  put-byte-reads.Learnt,
-  put-number-below t,
-  put-number.Post,
-) (put-number-at t) put-number.Post
-put-number-put-byte-requires t c κs = omega (arith, one-digit (c .before .before .before .args .v) (c .before .if1 .taken))
+  add-put-byte : put-number-lts.Need-add-put-byte (calls t) (put-number-at t) put-number.Post
+  add-put-byte c = omega arith
 
-put-number-same-length : (t : ℕ) → put-number-lts.Need-same-length (
-  put-byte-reads.Asked,
-  put-byte-reads.Learnt,
-  put-number-below t,
-  put-number.Post,
-) (put-number-at t) put-number.Post
-put-number-same-length t c = search needs
+  put-byte-requires : put-number-lts.Need-put-byte-requires (calls t) (put-number-at t) put-number.Post
+  put-byte-requires c κs = omega (arith, one-digit (c .before .before .before .args .v) (c .before .if1 .taken))
 
-put-number-returns : (t : ℕ) → put-number-lts.Need-returns (
-  put-byte-reads.Asked,
-  put-byte-reads.Learnt,
-  put-number-below t,
-  put-number.Post,
-) (put-number-at t) put-number.Post
-put-number-returns t c = rw (numeral-digit _ (c .before .before .before .before .if1 .taken)) (c .before .before .put-byte .ensures)
+  same-length : put-number-lts.Need-same-length (calls t) (put-number-at t) put-number.Post
+  same-length c = search needs
 
-put-number-put-number-requires : (t : ℕ) → put-number-lts.Need-put-number-requires (
-  put-byte-reads.Asked,
-  put-byte-reads.Learnt,
-  put-number-below t,
-  put-number.Post,
-) (put-number-at t) put-number.Post
-put-number-put-number-requires t c κs = (omega (arith, c .before .before .before .pre .0), omega (arith, more-digits (c .before .before .before .args .v) (c .before .if1 .left)))
+  returns : put-number-lts.Need-returns (calls t) (put-number-at t) put-number.Post
+  returns c = rw (numeral-digit _ (c .before .before .before .before .if1 .taken)) (c .before .before .put-byte .ensures)
 
-put-number-cast-put-byte-2 : (t : ℕ) → put-number-lts.Need-cast-put-byte-2 (
-  put-byte-reads.Asked,
-  put-byte-reads.Learnt,
-  put-number-below t,
-  put-number.Post,
-) (put-number-at t) put-number.Post
-put-number-cast-put-byte-2 t c = omega arith
+  put-number-requires : put-number-lts.Need-put-number-requires (calls t) (put-number-at t) put-number.Post
+  put-number-requires c κs =
+      let start = c .before .before .before in
+      (omega (arith, start .pre .0), omega (arith, more-digits (start .args .v) (c .before .if1 .left)))
 
-put-number-add-put-byte-2 : (t : ℕ) → put-number-lts.Need-add-put-byte-2 (
-  put-byte-reads.Asked,
-  put-byte-reads.Learnt,
-  put-number-below t,
-  put-number.Post,
-) (put-number-at t) put-number.Post
-put-number-add-put-byte-2 t c = omega arith
+  cast-put-byte-2 : put-number-lts.Need-cast-put-byte-2 (calls t) (put-number-at t) put-number.Post
+  cast-put-byte-2 c = omega arith
 
-put-number-put-byte-requires-2 : (t : ℕ) → put-number-lts.Need-put-byte-requires-2 (
-  put-byte-reads.Asked,
-  put-byte-reads.Learnt,
-  put-number-below t,
-  put-number.Post,
-) (put-number-at t) put-number.Post
-put-number-put-byte-requires-2 t c κs = omega (arith, more-digits (c .before .before .before .before .before .before .before .args .v) (c .before .before .before .before .before .if1 .left))
+  add-put-byte-2 : put-number-lts.Need-add-put-byte-2 (calls t) (put-number-at t) put-number.Post
+  add-put-byte-2 c = omega arith
 
-put-number-same-length-2 : (t : ℕ) → put-number-lts.Need-same-length-2 (
-  put-byte-reads.Asked,
-  put-byte-reads.Learnt,
-  put-number-below t,
-  put-number.Post,
-) (put-number-at t) put-number.Post
-put-number-same-length-2 t c = search needs
+  put-byte-requires-2 : put-number-lts.Need-put-byte-requires-2 (calls t) (put-number-at t) put-number.Post
+  put-byte-requires-2 c κs =
+      let tested = c .before .before .before .before .before in
+      omega (arith, more-digits (tested .before .before .args .v) (tested .if1 .left))
 
-put-number-returns-2 : (t : ℕ) → put-number-lts.Need-returns-2 (
-  put-byte-reads.Asked,
-  put-byte-reads.Learnt,
-  put-number-below t,
-  put-number.Post,
-) (put-number-at t) put-number.Post
-put-number-returns-2 t c =
-    let before = c .before .before .before .before .before .before in
-    rw (numeral-more _ (before .before .before .if1 .left)) (put-both (before .put-number .ensures) (c .before .before .put-byte2 .ensures))
+  same-length-2 : put-number-lts.Need-same-length-2 (calls t) (put-number-at t) put-number.Post
+  same-length-2 c = search needs
+
+  returns-2 : put-number-lts.Need-returns-2 (calls t) (put-number-at t) put-number.Post
+  returns-2 c =
+      let others = c .before .before .before .before .before .before in
+      rw (numeral-more _ (others .before .before .if1 .left)) (put-both (others .put-number .ensures) (c .before .before .put-byte2 .ensures))
 
 pub +put-number-spec : {M : Type 1} → statement M
-+put-number-spec = close μ-put-number λ t. put-number-lts.spec (
-  put-byte-reads.Asked,
-  put-byte-reads.Learnt,
-  put-number-below t,
-  put-number.Post,
-)
-    (put-number-at t)
-    put-number.Post
-    (put-number-cast-put-byte t)
-    (put-number-add-put-byte t)
-    (put-number-put-byte-requires t)
-    (put-number-same-length t)
-    (put-number-returns t)
-    (put-number-put-number-requires t)
-    (put-number-cast-put-byte-2 t)
-    (put-number-add-put-byte-2 t)
-    (put-number-put-byte-requires-2 t)
-    (put-number-same-length-2 t)
-    (put-number-returns-2 t)
++put-number-spec =
+    close μ-put-number
+    λ t. put-number-lts.spec (calls t) (put-number-at t) put-number.Post
+    (cast-put-byte t)
+    (add-put-byte t)
+    (put-byte-requires t)
+    (same-length t)
+    (returns t)
+    (put-number-requires t)
+    (cast-put-byte-2 t)
+    (add-put-byte-2 t)
+    (put-byte-requires-2 t)
+    (same-length-2 t)
+    (returns-2 t)

@@ -2,18 +2,17 @@
 use native.Mathlib.Omega.{arith}
 use lib.ListN.{length-append}
 use Rattle.printing.specs.NumberLine.{numberLine}
-use borrow.Author.Needs.{needs}
 use Rattle.printing.proofs.line_size.Statement.{statement}
 use Rattle.printing.proofs.line_size.Tie as tie
 
 digits-requires : tie.Need-digits-requires
-digits-requires c κs = search needs
+digits-requires c κs = tt
 
 add-result : tie.Need-add-result
-add-result c = search needs
+add-result c = omega arith
 
 add-result-2 : tie.Need-add-result-2
-add-result-2 c = search needs
+add-result-2 c = omega arith
 
 returns : tie.Need-returns
 unfolding numberLine

@@ -27,7 +27,7 @@ put-byte-requires c κs =
     omega (arith, length-take-le (turn .before .loop .k) (turn .before .before .before .before .args .text .now) (search needs), put-length (turn .before .loop .inv .1))
 
 add-k : tie.Need-add-k Inv-loop μ-loop
-add-k c = search needs
+add-k c = omega arith
 
 loop-less : tie.Need-loop-less Inv-loop μ-loop
 loop-less c = search needs

@@ -1,9 +1,9 @@
 -- `printing::put_line` meets its contract: key, number and LF are written one behind the other. Assumes nothing.
 use mathlib.Core.List.{[], _∷_, _++_}
+use borrow.Author.Needs.{needs}
 use Rattle.wording.specs.Line.{numeral}
 use Rattle.printing.specs.NumberLine.{numberLine}
 use Rattle.printing.proofs.Put.{put-both, room-first, room-second}
-use borrow.Author.Needs.{needs}
 use Rattle.printing.proofs.put_line.Statement.{statement}
 use Rattle.printing.proofs.put_line.Tie as tie
 

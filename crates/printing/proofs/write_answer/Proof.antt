@@ -1,6 +1,6 @@
 -- `printing::write_answer` meets its contract. Assumes nothing.
-use Rattle.printing.specs.Answers.{answerText, answerWritten}
 use borrow.Author.Needs.{needs}
+use Rattle.printing.specs.Answers.{answerText, answerWritten}
 use Rattle.printing.proofs.write_answer.Statement.{statement}
 use Rattle.printing.proofs.write_answer.Tie as tie
 
@@ -14,7 +14,7 @@ slice-aggregate-write-three-3 : tie.Need-slice-aggregate-write-three-3
 slice-aggregate-write-three-3 c = search needs
 
 write-three-requires : tie.Need-write-three-requires
-write-three-requires c κs = search needs
+write-three-requires c κs = tt
 
 same-length : tie.Need-same-length
 same-length c = search needs

@@ -1,6 +1,6 @@
 -- `printing::write_bytes` meets its contract. Assumes nothing.
-use Rattle.printing.proofs.Told.{told-short, told-done}
 use borrow.Author.Needs.{needs}
+use Rattle.printing.proofs.Told.{told-short, told-done}
 use Rattle.printing.proofs.write_bytes.Statement.{statement}
 use Rattle.printing.proofs.write_bytes.Tie as tie
 

@@ -1,6 +1,6 @@
 -- `printing::write_refused` meets its contract. Assumes nothing.
-use Rattle.printing.specs.Answers.{refusedText, refusedWritten}
 use borrow.Author.Needs.{needs}
+use Rattle.printing.specs.Answers.{refusedText, refusedWritten}
 use Rattle.printing.proofs.write_refused.Statement.{statement}
 use Rattle.printing.proofs.write_refused.Tie as tie
 
@@ -11,7 +11,7 @@ slice-aggregate-write-two-2 : tie.Need-slice-aggregate-write-two-2
 slice-aggregate-write-two-2 c = search needs
 
 write-two-requires : tie.Need-write-two-requires
-write-two-requires c κs = search needs
+write-two-requires c κs = tt
 
 same-length : tie.Need-same-length
 same-length c = search needs

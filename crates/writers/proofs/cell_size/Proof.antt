@@ -4,33 +4,32 @@ use native.Mathlib.Nat.{mul-le-mul}
 use native.Mathlib.Omega.{arith}
 use mathlib.Core.Path.{sym}
 use Rattle.writers.proofs.Row.{cell-size, few-records}
-use borrow.Author.Needs.{needs}
 use Rattle.writers.proofs.cell_size.Statement.{statement}
 use Rattle.writers.proofs.cell_size.Tie as tie
 
 cast-digits : tie.Need-cast-digits
-cast-digits c = search needs
+cast-digits c = omega arith
 
 digits-requires : tie.Need-digits-requires
-digits-requires c κs = search needs
+digits-requires c κs = tt
 
 add-record : tie.Need-add-record
-add-record c = search needs
+add-record c = omega arith
 
 cast-digits-2 : tie.Need-cast-digits-2
-cast-digits-2 c = search needs
+cast-digits-2 c = omega arith
 
 digits-requires-2 : tie.Need-digits-requires-2
-digits-requires-2 c κs = search needs
+digits-requires-2 c κs = tt
 
 add-record-2 : tie.Need-add-record-2
-add-record-2 c = search needs
+add-record-2 c = omega arith
 
 size-requires : tie.Need-size-requires
-size-requires c κs = search needs
+size-requires c κs = tt
 
 cast-result : tie.Need-cast-result
-cast-result c = search needs
+cast-result c = omega arith
 
 -- a cell has four records at most, and a record 36 bytes
 few : (c : tie.After-size) → c .size .result * (16 + c .before .before .before .digits .result + c .before .digits2 .result) ≤ 144

@@ -2,8 +2,8 @@
 use Rattle.rights.specs.Permission.{code}
 use Rattle.wording.specs.Word.{key, form, perms, wordFor}
 use Rattle.wording.specs.Line.{wordOf, lineText}
-use Rattle.writers.specs.Row.{permText}
 use Rattle.cells.proofs.Byte.{as-TT, as-TF, as-FT, as-FF}
+use Rattle.writers.specs.Row.{permText}
 use Rattle.writers.proofs.perm_line.Statement.{statement}
 use Rattle.writers.proofs.perm_line.Tie as tie
 

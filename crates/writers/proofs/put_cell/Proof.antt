@@ -1,11 +1,11 @@
 -- `writers::put_cell` meets its contract. Assumes nothing.
 use mathlib.Core.List.{_++_}
+use borrow.Author.Needs.{needs}
 use Rattle.rights.specs.Permission.{decoded}
 use Rattle.printing.specs.Put.{Room}
-use Rattle.writers.specs.Row.{memberText}
 use Rattle.printing.proofs.Put.{put-both, room-first, room-second}
+use Rattle.writers.specs.Row.{memberText}
 use Rattle.writers.proofs.Row.{cell-members}
-use borrow.Author.Needs.{needs}
 use Rattle.writers.proofs.put_cell.Statement.{statement}
 use Rattle.writers.proofs.put_cell.Tie as tie
 

@@ -1,13 +1,13 @@
 -- `writers::put_member` meets its contract. Assumes nothing.
 use mathlib.Core.Path.{sym, _∙_}
+use borrow.Author.Needs.{needs}
 use Rattle.printing.proofs.Put.{put-none, put-both, room-first, room-second}
 use Rattle.writers.proofs.Row.{member-stands, member-lacks}
-use borrow.Author.Needs.{needs}
 use Rattle.writers.proofs.put_member.Statement.{statement}
 use Rattle.writers.proofs.put_member.Tie as tie
 
 has-requires : tie.Need-has-requires
-has-requires c κs = search needs
+has-requires c κs = tt
 
 put-pair-requires : tie.Need-put-pair-requires
 put-pair-requires c κs = room-first _ (rw (member-stands _ _ _ _ (sym (c .before .before .has .ensures) ∙ c .before .if1 .taken)) at (c .before .before .before .before .pre))

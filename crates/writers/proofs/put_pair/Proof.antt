@@ -1,16 +1,16 @@
 -- `writers::put_pair` meets its contract: what is written into the part stands in the room. Assumes nothing.
 use native.Mathlib.Omega.{arith}
-use Rattle.writers.specs.Row.{pairText}
-use Rattle.printing.proofs.Told.{told-part}
 use borrow.Author.Needs.{needs}
+use Rattle.printing.proofs.Told.{told-part}
+use Rattle.writers.specs.Row.{pairText}
 use Rattle.writers.proofs.put_pair.Statement.{statement}
 use Rattle.writers.proofs.put_pair.Tie as tie
 
 cast-i : tie.Need-cast-i
-cast-i c = search needs
+cast-i c = omega arith
 
 cast-j : tie.Need-cast-j
-cast-j c = search needs
+cast-j c = omega arith
 
 slice-aggregate-write-two : tie.Need-slice-aggregate-write-two
 slice-aggregate-write-two c = search needs
@@ -19,7 +19,7 @@ slice-aggregate-write-two-2 : tie.Need-slice-aggregate-write-two-2
 slice-aggregate-write-two-2 c = search needs
 
 sub-write-two : tie.Need-sub-write-two
-sub-write-two c = search needs
+sub-write-two c = omega arith
 
 part-write-two-start : tie.Need-part-write-two-start
 part-write-two-start c = search needs
@@ -28,7 +28,7 @@ part-write-two-end : tie.Need-part-write-two-end
 part-write-two-end c = search needs
 
 write-two-requires : tie.Need-write-two-requires
-write-two-requires c κs = search needs
+write-two-requires c κs = tt
 
 add-result : tie.Need-add-result
 unfolding pairText

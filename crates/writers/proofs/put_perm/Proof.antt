@@ -1,18 +1,18 @@
 -- `writers::put_perm` meets its contract: what is written into the part stands in the room. Assumes nothing.
 use native.Mathlib.Omega.{arith}
-use Rattle.printing.proofs.Told.{told-part}
 use borrow.Author.Needs.{needs}
+use Rattle.printing.proofs.Told.{told-part}
 use Rattle.writers.proofs.put_perm.Statement.{statement}
 use Rattle.writers.proofs.put_perm.Tie as tie
 
 perm-line-requires : tie.Need-perm-line-requires
-perm-line-requires c κs = search needs
+perm-line-requires c κs = tt
 
 slice-aggregate-write-bytes : tie.Need-slice-aggregate-write-bytes
 slice-aggregate-write-bytes c = search needs
 
 sub-write-bytes : tie.Need-sub-write-bytes
-sub-write-bytes c = search needs
+sub-write-bytes c = omega arith
 
 part-write-bytes-start : tie.Need-part-write-bytes-start
 part-write-bytes-start c = search needs
@@ -21,7 +21,7 @@ part-write-bytes-end : tie.Need-part-write-bytes-end
 part-write-bytes-end c = search needs
 
 write-bytes-requires : tie.Need-write-bytes-requires
-write-bytes-requires c κs = search needs
+write-bytes-requires c κs = tt
 
 add-result : tie.Need-add-result
 add-result c =

@@ -3,9 +3,9 @@ use Prim.Native.Nat.{_-_, _≤_}
 use native.Mathlib.Omega.{arith}
 use mathlib.Core.Path.{_≡_}
 use borrow.Author.Needs.{needs}
-use Rattle.writers.specs.Row.{rowUpTo}
 use Rattle.printing.specs.Put.{Put}
 use Rattle.printing.proofs.Put.{put-none, put-both, put-length, room-second}
+use Rattle.writers.specs.Row.{rowUpTo}
 use Rattle.writers.proofs.Row.{row-none, row-more, row-all, row-room}
 use Rattle.writers.proofs.put_row.Statement.{statement}
 use Rattle.writers.proofs.put_row.Tie as tie
@@ -20,7 +20,7 @@ loop-holds : tie.Need-loop-holds Inv-loop μ-loop
 loop-holds c = (search needs, rw row-none put-none)
 
 cell-requires : tie.Need-cell-requires Inv-loop μ-loop
-cell-requires c κs = search needs
+cell-requires c κs = tt
 
 put-cell-requires : tie.Need-put-cell-requires Inv-loop μ-loop
 put-cell-requires c κs =
@@ -30,7 +30,7 @@ put-cell-requires c κs =
     (rw (← c .cell .ensures) at (row-room (start .args .header) (start .args .cells .now) (start .args .row .0) (turn .loop .to) (start .args .room .now) (c .before .before .loop-test .taken) (start .pre)))
 
 add-to : tie.Need-add-to Inv-loop μ-loop
-add-to c = search needs
+add-to c = omega arith
 
 loop-less : tie.Need-loop-less Inv-loop μ-loop
 loop-less c = search needs

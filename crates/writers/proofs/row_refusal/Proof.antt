@@ -2,12 +2,11 @@
 use borrow.Author.Tests.{ne-eqb, lt-ltb, le-ltb}
 use Rattle.rights.specs.Sound.{firstOf, unless}
 use Rattle.wording.specs.Writer.{rowRefusal}
-use borrow.Author.Needs.{needs}
 use Rattle.writers.proofs.row_refusal.Statement.{statement}
 use Rattle.writers.proofs.row_refusal.Tie as tie
 
 register-refusal-requires : tie.Need-register-refusal-requires
-register-refusal-requires c κs = search needs
+register-refusal-requires c κs = tt
 
 returns : tie.Need-returns
 unfolding rowRefusal firstOf unless

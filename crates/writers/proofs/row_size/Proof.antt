@@ -19,16 +19,16 @@ loop-holds : tie.Need-loop-holds Inv-loop μ-loop
 loop-holds c = (search needs, rw row-none, search needs)
 
 cell-requires : tie.Need-cell-requires Inv-loop μ-loop
-cell-requires c κs = search needs
+cell-requires c κs = tt
 
 cell-size-requires : tie.Need-cell-size-requires Inv-loop μ-loop
-cell-size-requires c κs = search needs
+cell-size-requires c κs = tt
 
 add-size : tie.Need-add-size Inv-loop μ-loop
-add-size c = search needs
+add-size c = omega arith
 
 add-to : tie.Need-add-to Inv-loop μ-loop
-add-to c = search needs
+add-to c = omega arith
 
 loop-less : tie.Need-loop-less Inv-loop μ-loop
 loop-less c = search needs

@@ -1,7 +1,7 @@
 -- `writers::write_end` meets its contract. Assumes nothing.
+use borrow.Author.Needs.{needs}
 use Rattle.wording.specs.Word.{endText}
 use Rattle.wording.specs.Writer.{endWritten}
-use borrow.Author.Needs.{needs}
 use Rattle.writers.proofs.write_end.Statement.{statement}
 use Rattle.writers.proofs.write_end.Tie as tie
 
@@ -9,7 +9,7 @@ slice-aggregate-write-bytes : tie.Need-slice-aggregate-write-bytes
 slice-aggregate-write-bytes c = search needs
 
 write-bytes-requires : tie.Need-write-bytes-requires
-write-bytes-requires c κs = search needs
+write-bytes-requires c κs = tt
 
 same-length : tie.Need-same-length
 same-length c = search needs

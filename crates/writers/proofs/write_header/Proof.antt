@@ -1,19 +1,19 @@
 -- `writers::write_header` meets its contract. Assumes nothing.
 use native.Mathlib.Omega.{arith}
 use mathlib.Core.List.{_++_, append-nil}
+use mathlib.Core.Path.{_≡_, sym, _∙_}
+use borrow.Author.Needs.{needs}
+use borrow.Author.Tests.{not-true, not-false}
 use Rattle.rights.specs.Sound.{unless}
+use Rattle.rights.specs.declared.Header.{Header}
 use Rattle.wording.specs.Word.{bytes, key, form}
 use Rattle.wording.specs.Line.{wordOf, lineText}
 use Rattle.wording.specs.Lines.{linesText, headerLines, headerValues, headerText}
 use Rattle.wording.specs.Writer.{headerWritten}
 use Rattle.printing.specs.NumberLine.{numberLine}
 use Rattle.printing.proofs.Told.{told-refused}
-use borrow.Author.Needs.{needs}
 use Rattle.writers.proofs.write_header.Statement.{statement}
 use Rattle.writers.proofs.write_header.Tie as tie
-use mathlib.Core.Path.{_≡_, sym, _∙_}
-use borrow.Author.Tests.{not-true, not-false}
-use Rattle.rights.specs.declared.Header.{Header}
 
 -- the header's text is three lines
 header-text :
@@ -23,20 +23,20 @@ unfolding headerText linesText headerLines headerValues lineText key form wordOf
 header-text h = rw append-nil
 
 headed-requires : tie.Need-headed-requires
-headed-requires c κs = search needs
+headed-requires c κs = tt
 
 returns : tie.Need-returns
 unfolding headerWritten unless
 returns c = rw (sym (c .before .headed .ensures) ∙ not-true _ (c .if1 .taken)) (told-refused 1 _ _ (λ z. omega arith))
 
 cast-n : tie.Need-cast-n
-cast-n c = search needs
+cast-n c = omega arith
 
 cast-soa : tie.Need-cast-soa
-cast-soa c = search needs
+cast-soa c = omega arith
 
 cast-layer : tie.Need-cast-layer
-cast-layer c = search needs
+cast-layer c = omega arith
 
 slice-aggregate-write-three : tie.Need-slice-aggregate-write-three
 slice-aggregate-write-three c = search needs
@@ -48,7 +48,7 @@ slice-aggregate-write-three-3 : tie.Need-slice-aggregate-write-three-3
 slice-aggregate-write-three-3 c = search needs
 
 write-three-requires : tie.Need-write-three-requires
-write-three-requires c κs = search needs
+write-three-requires c κs = tt
 
 same-length : tie.Need-same-length
 same-length c = search needs

@@ -1,21 +1,21 @@
 -- `writers::write_row` meets its contract. Assumes nothing.
 use native.Mathlib.Omega.{arith}
 use mathlib.Core.Path.{sym, _∙_}
+use borrow.Author.Needs.{needs}
 use Rattle.wording.specs.Writer.{rowWritten}
 use Rattle.printing.proofs.Told.{told-refused, told-short, told-done}
-use borrow.Author.Needs.{needs}
 use Rattle.writers.proofs.write_row.Statement.{statement}
 use Rattle.writers.proofs.write_row.Tie as tie
 
 row-refusal-requires : tie.Need-row-refusal-requires
-row-refusal-requires c κs = search needs
+row-refusal-requires c κs = tt
 
 returns : tie.Need-returns
 unfolding rowWritten
 returns c = rw (← c .before .row-refusal .ensures) (told-refused _ _ _ (c .if1 .taken))
 
 row-size-requires : tie.Need-row-size-requires
-row-size-requires c κs = search needs
+row-size-requires c κs = tt
 
 returns-2 : tie.Need-returns-2
 unfolding rowWritten

@@ -3,6 +3,7 @@
 use Prim.Native.Nat.{ℕ}
 use mathlib.Core.Path.{_≡_, sym, _∙_}
 use mathlib.Core.Bool.{Bool}
+use Rattle.cells.proofs.is_code.Reads as is-code
 use Rattle.cells.proofs.has.Reads as has
 use Rattle.cells.proofs.carries.Reads as carries
 use Rattle.cells.proofs.enough.Reads as enough
@@ -21,6 +22,9 @@ Once {A} told = (r s : A) → told r → told s → r ≡ s
 -- what a total function gives is told of one value alone
 pub no-second : {A : Type 0} (outcome : A) → Once (λ (r : A). r ≡ outcome)
 no-second outcome r s p q = p ∙ sym q
+
+pub is-code-once : (κs : _) (a : _) (exit : _) → Once (λ (r : Bool). is-code.Post κs a r exit)
+is-code-once κs a exit = no-second _
 
 pub has-once : (κs : _) (a : _) (exit : _) → Once (λ (r : Bool). has.Post κs a r exit)
 has-once κs a exit = no-second _

@@ -7,10 +7,26 @@ ghost use mathlib.Core.Path.{_≡_};
 ghost use mathlib.Core.Bool.{_&&_, _||_, not, cond};
 ghost use Prim.Native.Nat.{_≤_};
 ghost use lib.Dec.{eqb, leb};
-ghost use Rattle.rights.specs.Permission.{need, decoded};
+ghost use Rattle.rights.specs.Permission.{isCode, need, decoded};
 ghost use Rattle.rights.specs.Register.{cell as cellOf};
 ghost use Rattle.rights.specs.Sound.{headed as isHeaded, whole as isWhole};
 ghost use Rattle.rights.specs.Cell.{has as hasRecord, carries as cellCarries, size as cellSize, union as cellUnion, without as cellWithout, restrict as restrictCell};
+
+// Whether the number is the code of a permission.
+pub fn is_code(perm: u8) -> bool
+    ensures { λ r. ⌜ r ≡ isCode perm ⌝ }
+{
+    if perm == 8 {
+        return true;
+    }
+    if perm == 4 {
+        return true;
+    }
+    if perm == 2 {
+        return true;
+    }
+    perm == 1
+}
 
 // Whether the record stands in the cell.
 pub fn has(c: u8, perm: u8) -> bool

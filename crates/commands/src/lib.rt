@@ -7,7 +7,6 @@ ghost use mathlib.Core.Path.{_≡_};
 ghost use mathlib.Core.Bool.{true, _&&_};
 ghost use Prim.Native.Nat.{_<_};
 ghost use lib.Dec.{ltb};
-ghost use Rattle.rights.specs.Permission.{isCode};
 ghost use Rattle.rights.specs.Sound.{headed, whole, barred as isBarred};
 ghost use Rattle.rights.specs.Command.{wellFormed, grantRefusal, deletionRefusal, formRefusal, refusal as refusalOf, carriedOut, outcome};
 ghost use Rattle.rows.specs.Whole.{ifWhole};
@@ -21,22 +20,6 @@ pub struct Outcome {
     pub added: u32,
 }
 
-// Whether the number is the code of a permission.
-fn is_code(perm: u8) -> bool
-    ensures { λ r. ⌜ r ≡ isCode perm ⌝ }
-{
-    if perm == 8 {
-        return true;
-    }
-    if perm == 4 {
-        return true;
-    }
-    if perm == 2 {
-        return true;
-    }
-    perm == 1
-}
-
 // Whether the act is one, and perm is allowed for it.
 fn well_formed(command: Command) -> bool
     ensures { λ r. ⌜ r ≡ wellFormed command ⌝ }
@@ -44,7 +27,7 @@ fn well_formed(command: Command) -> bool
     let act = command.act;
     let perm = command.perm;
     if act == 0 {
-        return is_code(perm);
+        return cells::is_code(perm);
     }
     if act <= 4 {
         return perm == 0;

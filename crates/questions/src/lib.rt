@@ -8,7 +8,7 @@ ghost use Prim.Native.Nat.{_+_, _≤_, _<_};
 ghost use mathlib.Core.List.{_++_};
 ghost use lib.ListN.{length, drop, set as setAt};
 ghost use Rattle.rights.specs.Below.{firstBelow};
-ghost use Rattle.rights.specs.Permission.{isCode, decoded, passing};
+ghost use Rattle.rights.specs.Permission.{decoded, passing};
 ghost use Rattle.rights.specs.Register.{soaOf};
 ghost use Rattle.rights.specs.Question.{single as setOfOne, nearer as nearerSoa, lastOf, smallest, answered};
 ghost use Rattle.levels.specs.Padded.{padded};
@@ -160,28 +160,12 @@ fn search(cells: &[u8], header: Header, office: Office, perm: u8, chain: &mut [u
     }
 }
 
-// Whether the number is the code of a permission.
-fn is_code(perm: u8) -> bool
-    ensures { λ r. ⌜ r ≡ isCode perm ⌝ }
-{
-    if perm == 8 {
-        return true;
-    }
-    if perm == 4 {
-        return true;
-    }
-    if perm == 2 {
-        return true;
-    }
-    perm == 1
-}
-
 // The first of refusals 4, 6 and 11 that applies; 0 where none does.
 fn form_refusal(header: Header, office: Office, perm: u8, room: usize) -> u8
     ensures { λ r. ⌜ r ≡ formRefusal header (office .0) perm room ⌝ }
 {
     let n = header.n;
-    if !is_code(perm) {
+    if !cells::is_code(perm) {
         return 4;
     }
     if n <= office.0 {

@@ -4,7 +4,7 @@ use Prim.Native.Nat.{ℕ}
 use mathlib.Core.List.{List, [], _∷_}
 use Rattle.rights.specs.declared.Command.{Command}
 use Rattle.rights.specs.Permission.{Permission, TT, TF, FT, FF, code}
-use Rattle.rights.specs.Maps.{Map, map, mapA, mapB, mapC, mapD, mapE, mapF, mapG, mapH}
+use Rattle.rights.specs.Maps.{Map, mapOf, mapA, mapB, mapC, mapD, mapE, mapF, mapG, mapH}
 
 pub data Case : Type 0 where
   -- commands in turn, with the tally of all of them
@@ -34,33 +34,33 @@ SGD i j = command 4 i j 0
 
 -- what case 1, case 4 and the WLD of case 7 leave
 unfoldable pub leftByOne : Map
-leftByOne = map 5 ((0, 3, TF) ∷ (2, 4, TF) ∷ (3, 2, TF) ∷ [])
+leftByOne = mapOf 5 ((0, 3, TF) ∷ (2, 4, TF) ∷ (3, 2, TF) ∷ [])
 
 unfoldable pub leftByFour : Map
-leftByFour = map 5 ((0, 1, TT) ∷ (0, 3, TF) ∷ (1, 4, TT) ∷ (2, 4, TF) ∷ (3, 2, TF) ∷ [])
+leftByFour = mapOf 5 ((0, 1, TT) ∷ (0, 3, TF) ∷ (1, 4, TT) ∷ (2, 4, TF) ∷ (3, 2, TF) ∷ [])
 
 unfoldable pub leftBySeven : Map
-leftBySeven = map 3 ((0, 2, TT) ∷ (2, 1, TT) ∷ [])
+leftBySeven = mapOf 3 ((0, 2, TT) ∷ (2, 1, TT) ∷ [])
 
 unfoldable pub cases : List Case
 cases =
     -- 1. 'A, WGD 0,1: 0→3 TF, 2→4 TF, 3→2 TF; removed 3, added 1.'
     cut mapA (WGD 0 1 ∷ []) (0 ∷ []) 3 1 leftByOne ∷
     -- 2. 'A, WLD 0,1: 0→2 TT, 0→3 TF, 2→4 TT, 3→2 TF; 2, 1.'
-    cut mapA (WLD 0 1 ∷ []) (0 ∷ []) 2 1 (map 5 ((0, 2, TT) ∷ (0, 3, TF) ∷ (2, 4, TT) ∷ (3, 2, TF) ∷ [])) ∷
+    cut mapA (WLD 0 1 ∷ []) (0 ∷ []) 2 1 (mapOf 5 ((0, 2, TT) ∷ (0, 3, TF) ∷ (2, 4, TT) ∷ (3, 2, TF) ∷ [])) ∷
     -- 3. 'A, WGD 1,2: 0→1 TT, 0→3 TF, 2→4 TF, 3→2 TF; 2, 1.'
-    cut mapA (WGD 1 2 ∷ []) (0 ∷ []) 2 1 (map 5 ((0, 1, TT) ∷ (0, 3, TF) ∷ (2, 4, TF) ∷ (3, 2, TF) ∷ [])) ∷
+    cut mapA (WGD 1 2 ∷ []) (0 ∷ []) 2 1 (mapOf 5 ((0, 1, TT) ∷ (0, 3, TF) ∷ (2, 4, TF) ∷ (3, 2, TF) ∷ [])) ∷
     -- 4. 'A, WLD or SLD 1,2: 0→1 TT, 0→3 TF, 1→4 TT, 2→4 TF, 3→2 TF; 2, 2.'
     cut mapA (WLD 1 2 ∷ []) (0 ∷ []) 2 2 leftByFour ∷
     cut mapA (SLD 1 2 ∷ []) (0 ∷ []) 2 2 leftByFour ∷
     -- 5. 'A, WGD 0,1 with WGD 3,2, either order: 0→3 TF.'
-    cut mapA (WGD 0 1 ∷ WGD 3 2 ∷ []) (0 ∷ 0 ∷ []) 5 1 (map 5 ((0, 3, TF) ∷ [])) ∷
-    cut mapA (WGD 3 2 ∷ WGD 0 1 ∷ []) (0 ∷ 0 ∷ []) 4 0 (map 5 ((0, 3, TF) ∷ [])) ∷
+    cut mapA (WGD 0 1 ∷ WGD 3 2 ∷ []) (0 ∷ 0 ∷ []) 5 1 (mapOf 5 ((0, 3, TF) ∷ [])) ∷
+    cut mapA (WGD 3 2 ∷ WGD 0 1 ∷ []) (0 ∷ 0 ∷ []) 4 0 (mapOf 5 ((0, 3, TF) ∷ [])) ∷
     -- 6. 'B, WGD 1,2: 0→1 TT, 1→3 TT, 3→2 TF. SGD 1,2: 0→1 TT, 1→3 TT.'
-    cut mapB (WGD 1 2 ∷ []) (0 ∷ []) 1 0 (map 4 ((0, 1, TT) ∷ (1, 3, TT) ∷ (3, 2, TF) ∷ [])) ∷
-    cut mapB (SGD 1 2 ∷ []) (0 ∷ []) 2 0 (map 4 ((0, 1, TT) ∷ (1, 3, TT) ∷ [])) ∷
+    cut mapB (WGD 1 2 ∷ []) (0 ∷ []) 1 0 (mapOf 4 ((0, 1, TT) ∷ (1, 3, TT) ∷ (3, 2, TF) ∷ [])) ∷
+    cut mapB (SGD 1 2 ∷ []) (0 ∷ []) 2 0 (mapOf 4 ((0, 1, TT) ∷ (1, 3, TT) ∷ [])) ∷
     -- 7. 'C, WGD 0,1: empty. WLD 0,1: 0→2 TT, 2→1 TT, so 1 still holds TT.'
-    cut mapC (WGD 0 1 ∷ []) (0 ∷ []) 3 0 (map 3 []) ∷
+    cut mapC (WGD 0 1 ∷ []) (0 ∷ []) 3 0 (mapOf 3 []) ∷
     cut mapC (WLD 0 1 ∷ []) (0 ∷ []) 2 1 leftBySeven ∷
     ask leftBySeven 1 TT 0 (0 ∷ 2 ∷ 1 ∷ []) ∷
     -- 8. 'A, 4 for TF: chain 0,1,2,4. 0 for TT: chain 0. 3 for FT: 12. After case 1, 4 for TF: 0,3,2,4.'
@@ -69,11 +69,11 @@ cases =
     ask mapA 3 FT 12 [] ∷
     ask leftByOne 4 TF 0 (0 ∷ 3 ∷ 2 ∷ 4 ∷ []) ∷
     -- Beyond 01's list: an SGD of two rounds. The first takes 0→2 TF and so 2→3 TF, the second 0→3 FF.
-    cut mapD (SGD 0 1 ∷ []) (0 ∷ []) 5 0 (map 4 []) ∷
+    cut mapD (SGD 0 1 ∷ []) (0 ∷ []) 5 0 (mapOf 4 []) ∷
     -- Beyond 01's list: an FT holder passes nothing on. FT comes to 3 over TT links. Without 2→1 TT office 1 holds FT and no level,
     -- so 1→3 FT goes, and 1 cannot grant it again.
     ask mapE 3 FT 0 (0 ∷ 2 ∷ 1 ∷ 3 ∷ []) ∷
-    cut mapE (WGD 2 1 ∷ GRANT 1 3 FT ∷ []) (0 ∷ 8 ∷ []) 2 0 (map 4 ((0, 1, FT) ∷ (0, 2, TT) ∷ [])) ∷
+    cut mapE (WGD 2 1 ∷ GRANT 1 3 FT ∷ []) (0 ∷ 8 ∷ []) 2 0 (mapOf 4 ((0, 1, FT) ∷ (0, 2, TT) ∷ [])) ∷
     -- Beyond 01's list: 'the smallest list compared from SOA on' is not found from its end, where 3 is smaller than 4.
     ask mapF 5 TT 0 (0 ∷ 1 ∷ 4 ∷ 5 ∷ []) ∷
     -- Beyond 01's list: FF at the end of a TF chain. The link 0→2 carries FF alone, which passes nothing on, so 0,2,3 is no chain.

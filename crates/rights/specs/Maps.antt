@@ -14,8 +14,8 @@ pub record Map : Type 0 where
   pub n : ℕ
   pub grants : List Grant
 
-unfoldable pub map : ℕ → List Grant → Map
-map n grants = record { n = n; grants = grants }
+unfoldable pub mapOf : ℕ → List Grant → Map
+mapOf n grants = record { n = n; grants = grants }
 
 -- 'SOA is 0', and the layer is that of the program's example
 unfoldable pub headerOf : Map → Header
@@ -34,30 +34,30 @@ unfoldable pub bytesOf : Map → List ℕ
 bytesOf m = drawn (m .n) (m .grants)
 
 unfoldable pub mapA : Map
-mapA = map 5 ((0, 1, TT) ∷ (0, 3, TF) ∷ (1, 2, TT) ∷ (2, 4, TT) ∷ (3, 2, TF) ∷ [])
+mapA = mapOf 5 ((0, 1, TT) ∷ (0, 3, TF) ∷ (1, 2, TT) ∷ (2, 4, TT) ∷ (3, 2, TF) ∷ [])
 
 unfoldable pub mapB : Map
-mapB = map 4 ((0, 1, TT) ∷ (1, 2, TT) ∷ (1, 3, TT) ∷ (3, 2, TF) ∷ [])
+mapB = mapOf 4 ((0, 1, TT) ∷ (1, 2, TT) ∷ (1, 3, TT) ∷ (3, 2, TF) ∷ [])
 
 unfoldable pub mapC : Map
-mapC = map 3 ((0, 1, TT) ∷ (1, 2, TT) ∷ (2, 1, TT) ∷ [])
+mapC = mapOf 3 ((0, 1, TT) ∷ (1, 2, TT) ∷ (2, 1, TT) ∷ [])
 
 -- Beyond 01's list: office 2 holds TT by 1 and TF by SOA, office 3 holds TF by 2 and FF by SOA.
 unfoldable pub mapD : Map
-mapD = map 4 ((0, 1, TT) ∷ (0, 2, TF) ∷ (0, 3, FF) ∷ (1, 2, TT) ∷ (2, 3, TF) ∷ [])
+mapD = mapOf 4 ((0, 1, TT) ∷ (0, 2, TF) ∷ (0, 3, FF) ∷ (1, 2, TT) ∷ (2, 3, TF) ∷ [])
 
 -- Beyond 01's list: office 1 holds TT by 2 and FT by SOA.
 unfoldable pub mapE : Map
-mapE = map 4 ((0, 1, FT) ∷ (0, 2, TT) ∷ (1, 3, FT) ∷ (2, 1, TT) ∷ [])
+mapE = mapOf 4 ((0, 1, FT) ∷ (0, 2, TT) ∷ (1, 3, FT) ∷ (2, 1, TT) ∷ [])
 
 -- Beyond 01's list: the smaller office next to 5 is on the larger chain.
 unfoldable pub mapF : Map
-mapF = map 6 ((0, 1, TT) ∷ (0, 2, TT) ∷ (1, 4, TT) ∷ (2, 3, TT) ∷ (4, 5, TT) ∷ (3, 5, TT) ∷ [])
+mapF = mapOf 6 ((0, 1, TT) ∷ (0, 2, TT) ∷ (1, 4, TT) ∷ (2, 3, TT) ∷ (4, 5, TT) ∷ (3, 5, TT) ∷ [])
 
 -- Beyond 01's list: office 2 holds FF by SOA, and TF by 1 alone.
 unfoldable pub mapG : Map
-mapG = map 4 ((0, 1, TF) ∷ (1, 2, TF) ∷ (0, 2, FF) ∷ (2, 3, FF) ∷ [])
+mapG = mapOf 4 ((0, 1, TF) ∷ (1, 2, TF) ∷ (0, 2, FF) ∷ (2, 3, FF) ∷ [])
 
 -- Beyond 01's list: nobody grants anything.
 unfoldable pub mapH : Map
-mapH = map 3 []
+mapH = mapOf 3 []

@@ -30,11 +30,6 @@ use Rattle.deletions.proofs.Made.{length-column-step}
 use Rattle.deletions.proofs.Copy.{copy-start}
 use Rattle.strong.proofs.Rest.{until-padded}
 
--- a register is short enough to be copied
-pub few-cells : (h : Header) (R : List ℕ) → headed h && whole h R ≡ true → length R ≤ 16384
-few-cells h R t =
-    rw (whole-length h R (right-of (headed h) (whole h R) t)) (square-small (h .n) (headed-high h (left-of (headed h) (whole h R) t)))
-
 -- where there is a register, what is done to it is done
 in-whole : (h : Header) (R S : List ℕ) → headed h && whole h R ≡ true → ifWhole h R S ≡ S
 unfolding ifWhole

@@ -1,8 +1,8 @@
--- `commands::is_code` meets its contract. Assumes nothing.
+-- `cells::is_code` meets its contract. Assumes nothing.
 use borrow.Author.Tests.{eq-eqb, ne-eqb, not-true, not-false}
 use Rattle.rights.specs.Permission.{code, anyPermission, isCode}
-use Rattle.commands.proofs.is_code.Statement.{statement}
-use Rattle.commands.proofs.is_code.Tie as tie
+use Rattle.cells.proofs.is_code.Statement.{statement}
+use Rattle.cells.proofs.is_code.Tie as tie
 
 returns : tie.Need-returns
 unfolding isCode anyPermission code

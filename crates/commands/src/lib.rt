@@ -14,6 +14,7 @@ ghost use Rattle.tally.specs.Missing.{missingIfWhole};
 ghost use Rattle.commands.specs.Post.{Answers};
 
 // What a command answers: 0 or its refusal, and the records that it removed and added.
+#[repr(C)]
 pub struct Outcome {
     pub answer: u8,
     pub removed: u32,

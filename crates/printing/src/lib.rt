@@ -12,6 +12,7 @@ ghost use Rattle.printing.specs.NumberLine.{numberLine};
 ghost use Rattle.printing.specs.Answers.{answerWritten, refusedWritten};
 
 // What a writer answers: 0 or the refusal, and the length of what it wrote.
+#[repr(C)]
 pub struct Written {
     pub answer: u8,
     pub size: usize,

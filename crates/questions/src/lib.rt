@@ -15,6 +15,7 @@ ghost use Rattle.levels.specs.Padded.{padded};
 ghost use Rattle.questions.specs.Step.{linkInto, fewestInto, formRefusal, searched, outcomeOf};
 
 // What a question answers: 0 or the refusal, and of how many offices the chain is, 0 where it is refused.
+#[repr(C)]
 pub struct Held {
     pub answer: u8,
     pub offices: u8,

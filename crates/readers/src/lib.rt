@@ -14,6 +14,7 @@ ghost use Rattle.wording.specs.CommandReader.{commandRead};
 ghost use Rattle.readers.specs.Told.{headerIn, commandTold, commandRefused, registerNot, refusalOf, RegisterTold, behindHeaderAt, RestTold, RegisterRest, CommandRest};
 
 // What the command reader gives: 0 or 13, where the bad line starts, the command, and where the rest starts.
+#[repr(C)]
 pub struct CommandRead {
     pub answer: u8,
     pub at: usize,
@@ -22,6 +23,7 @@ pub struct CommandRead {
 }
 
 // What the register reader gives: 0 or the refusal, where the bad line starts, the header, and where the rest starts.
+#[repr(C)]
 pub struct RegisterRead {
     pub answer: u8,
     pub at: usize,

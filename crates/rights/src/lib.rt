@@ -6,13 +6,16 @@ ghost use Prim.Native.Nat.{_+_};
 ghost use Rattle.rights.specs.Tally.{capped};
 
 // The number of an office.
+#[repr(C)]
 pub struct Office(pub u16);
 
 // The number of a layer.
+#[repr(C)]
 pub struct Layer(pub u16);
 
 // What a register's bytes do not say themselves: how many offices there are, which of them is the source of authority, and
 // whose layer it is.
+#[repr(C)]
 pub struct Header {
     pub n: u16,
     pub soa: Office,
@@ -20,6 +23,7 @@ pub struct Header {
 }
 
 // One command to a register, as it was given: nothing of it is known to be in range.
+#[repr(C)]
 pub struct Command {
     pub act: u8,
     pub layer: Layer,
@@ -29,12 +33,14 @@ pub struct Command {
 }
 
 // A command of a run, with the place for its answer.
+#[repr(C)]
 pub struct Entry {
     pub command: Command,
     pub answer: u8,
 }
 
 // How many records were removed and added, so far.
+#[repr(C)]
 pub struct Tally {
     pub removed: u64,
     pub added: u64,
@@ -65,6 +71,7 @@ fn more(count: u64, extra: u32) -> u64
 }
 
 // What taking in one command, or a whole run, hands back.
+#[repr(C)]
 pub struct Ran {
     pub answer: u8,
     pub tally: Tally,

@@ -22,7 +22,7 @@ part-there text next h = take-all (length text - next) (drop next text) (rw leng
 pub part-past : (text : List ℕ) (next : ℕ) → length text < next → take (length text - length text) (drop (length text) text) ≡ drop next text
 part-past text next h = rw (drop-length, drop-of-length-le text {i = next} (omega arith)) (take-nil (length text - length text))
 
-command-within : (text : List ℕ) → commandRead text .next ≤ length text
+pub command-within : (text : List ℕ) → commandRead text .next ≤ length text
 unfolding commandRead commandJudged offset
 command-within text = go (linesOf commandLines text)
   where
@@ -30,7 +30,7 @@ command-within text = go (linesOf commandLines text)
     go (got vs rest) = omega arith
     go (badAt line) = omega arith
 
-register-within : (text buffer : List ℕ) → registerRead text buffer .next ≤ length text
+pub register-within : (text buffer : List ℕ) → registerRead text buffer .next ≤ length text
 unfolding registerRead judged registerDone registerRefused offset
 register-within text buffer = go (contentOf text)
   where

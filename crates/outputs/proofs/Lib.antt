@@ -1,0 +1,8 @@
+-- What is proved of the output of `regrun`.
+pub mod Short
+pub mod Part
+pub mod Accepted
+pub mod Commands
+pub mod Turn
+pub mod Beginning
+pub mod Whole

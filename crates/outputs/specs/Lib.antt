@@ -1,0 +1,2 @@
+-- What the program `regrun` writes for an input.
+pub mod Output

@@ -56,24 +56,53 @@ impl Map {
 pub fn sound(random: &mut Random, n: u16) -> Map {
     let mut order: Vec<u16> = (0..n).collect();
     random.shuffle(&mut order);
-    let layer = random.one_of(&[0, 7, 65535]);
-    let mut map = Map::empty(n, order[0], layer);
+    let soa = order[0];
+    let mut map = Map::empty(n, soa, random.one_of(&[0, 7, 65535]));
     let mut levels = vec![0; usize::from(n)];
-    levels[usize::from(order[0])] = 2;
-    let links = links(random, &order);
-    let perms = perms_of_a_temper(random);
-    for (by, to) in links {
-        let perm = random.one_of(perms);
+    levels[usize::from(soa)] = 2;
+    for (by, to, perm) in grants(random, &order) {
         let needed = if perm == TT || perm == FT { 2 } else { 1 };
-        if by == to || to == order[0] || levels[usize::from(by)] < needed {
+        if by == to || to == soa || levels[usize::from(by)] < needed {
             continue;
         }
         *map.cell_mut(by, to) |= perm;
-        let given = if perm & (TT | TF) != 0 { needed } else { 0 };
+        let given = if perm == TT || perm == TF { needed } else { 0 };
         let level = &mut levels[usize::from(to)];
         *level = given.max(*level);
     }
     map
+}
+
+/// The grants to try, in this order. `order` starts with SOA.
+fn grants(random: &mut Random, order: &[u16]) -> Vec<(u16, u16, u8)> {
+    if order.len() >= 6 && random.once_in(6) {
+        return two_rounds(random, order);
+    }
+    let perms = perms_of_a_temper(random);
+    let links = links(random, order).into_iter();
+    links
+        .map(|(by, to)| (by, to, random.one_of(perms)))
+        .collect()
+}
+
+/// Strong global deletion of the grant i, j takes two rounds here, unless the strays prevent it: x
+/// loses nothing until a does in the first round, and only then what b granted to it goes.
+fn two_rounds(random: &mut Random, order: &[u16]) -> Vec<(u16, u16, u8)> {
+    let first = random.below(2); // i is SOA or the office that it grants to
+    let [i, j, a, b, x] = [0, 1, 2, 3, 4].map(|place| order[first + place]);
+    let mut grants = vec![
+        (order[0], i, TT),
+        (i, j, TT),
+        (j, a, TT),
+        (i, b, TF),
+        (b, a, TF),
+        (a, x, TF),
+        (b, x, FF),
+    ];
+    let more = random.below(order.len());
+    let strays = strays(random, order, more).into_iter();
+    grants.extend(strays.map(|(by, to)| (by, to, random.one_of(&PERMS))));
+    grants
 }
 
 /// Long chains want many TT; losses by degrees want a mixture.
@@ -90,7 +119,6 @@ fn perms_of_a_temper(random: &mut Random) -> &'static [u8] {
 
 type Links = Vec<(u16, u16)>;
 
-/// The links to grant along, in this order. `order` starts with SOA.
 fn links(random: &mut Random, order: &[u16]) -> Links {
     let many = order.len();
     let mut links = match random.below(6) {

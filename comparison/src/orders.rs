@@ -14,7 +14,7 @@ pub fn command(random: &mut Random, map: &Map) -> Command {
     }
 }
 
-fn of(act: u8, map: &Map, by: u16, to: u16, perm: u8) -> Command {
+pub fn of(act: u8, map: &Map, by: u16, to: u16, perm: u8) -> Command {
     Command {
         act,
         layer: map.header.layer,

@@ -11,6 +11,7 @@ use rights_register::register_text;
 /// How much is tried with one register. The second program is slow where there are many offices.
 struct Effort {
     commands: usize,
+    pairs: usize,
     faulty: usize,
     offices: usize,
     run: usize,
@@ -20,8 +21,9 @@ struct Effort {
 
 const SMALL: Effort = Effort {
     commands: 30,
+    pairs: 6,
     faulty: 12,
-    offices: 12,
+    offices: FEW as usize,
     run: 30,
     texts: 24,
     rows: 3,
@@ -29,6 +31,7 @@ const SMALL: Effort = Effort {
 
 const LARGE: Effort = Effort {
     commands: 4,
+    pairs: 1,
     faulty: 3,
     offices: 2,
     run: 4,
@@ -36,27 +39,43 @@ const LARGE: Effort = Effort {
     rows: 1,
 };
 
+/// Registers of up to so many offices are tried with all the effort.
+const FEW: u16 = 12;
+
 /// Every fortieth round has many offices.
 fn size(random: &mut Random, round: u64) -> u16 {
     match round % 120 {
         39 => 64,
         79 => 127,
         119 => 128,
-        _ => 2 + random.office(11),
+        _ => 2 + random.office(FEW - 1),
     }
 }
 
 pub fn round(told: &mut Told, random: &mut Random, round: u64) {
     let n = size(random, round);
-    let effort = if n <= 12 { SMALL } else { LARGE };
+    let effort = if n <= FEW { SMALL } else { LARGE };
     let map = maps::sound(random, n);
     ask(told, random, &map, &effort);
     write(told, random, &map, &effort);
     read(told, random, &map, &effort);
     run(told, random, &map, round, &effort);
+    cut(told, random, &map, &effort);
     let left = carry_out(told, random, &map, &effort);
     ask(told, random, &left, &effort);
     try_faulty(told, random, &map, &effort);
+}
+
+/// The four deletions of some grants, each on the register as it was made.
+fn cut(told: &mut Told, random: &mut Random, map: &Map, effort: &Effort) {
+    let mut pairs = map.pairs();
+    random.shuffle(&mut pairs);
+    for (by, to) in pairs.into_iter().take(effort.pairs) {
+        for act in 1..=4 {
+            let deletion = orders::of(act, map, by, to, 0);
+            commands::command(told, &mut map.clone(), deletion);
+        }
+    }
 }
 
 /// Commands one after the other, each on what the last one left; gives what is left at the end.
@@ -130,7 +149,7 @@ fn try_faulty(told: &mut Told, random: &mut Random, map: &Map, effort: &Effort) 
 fn run(told: &mut Told, random: &mut Random, map: &Map, round: u64, effort: &Effort) {
     let some = 2 + random.below(effort.run);
     let mut lengths = vec![0, 1, some];
-    if map.header.n <= 12 {
+    if map.header.n <= FEW {
         match round % 8 {
             0 => lengths.push(256),
             4 => lengths.push(257),

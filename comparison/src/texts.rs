@@ -125,11 +125,14 @@ fn damaged_line(random: &mut Random, text: &[u8]) -> Vec<u8> {
     lines.concat()
 }
 
-/// The text with two records, or other neighbouring groups of three lines, changing places.
-fn swapped_records(random: &mut Random, text: &[u8]) -> Vec<u8> {
+/// The text with two records, or other groups of three lines, changing places, or one told twice.
+fn damaged_record(random: &mut Random, text: &[u8]) -> Vec<u8> {
     let mut groups: Vec<Vec<u8>> = lines(text).chunks(3).map(|group| group.concat()).collect();
-    let (one, other) = (random.below(groups.len()), random.below(groups.len()));
-    groups.swap(one, other);
+    let (at, other) = (random.below(groups.len()), random.below(groups.len()));
+    match random.below(2) {
+        0 => groups.swap(at, other),
+        _ => groups.insert(at, groups[at].clone()),
+    }
     groups.concat()
 }
 
@@ -143,7 +146,7 @@ pub fn damaged(random: &mut Random, text: &[u8]) -> Vec<u8> {
         text = match random.below(5) {
             0 | 1 => damaged_byte(random, text),
             2 | 3 => damaged_line(random, &text),
-            _ => swapped_records(random, &text),
+            _ => damaged_record(random, &text),
         };
     }
     text

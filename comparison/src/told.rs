@@ -1,7 +1,6 @@
 //! What the comparison has seen so far: agreements, differences, and how often each answer was met.
 
 use crate::calls::{Call, CALLS};
-use std::fmt::Write;
 
 /// All that a caller sees of one call: the answer, the other numbers given, and every byte that was
 /// lent.
@@ -64,7 +63,7 @@ impl Told {
             None => self.same(false, || format!("{} answers {}", call.name(), ours.answer)),
         }
         self.same(ours == theirs, || {
-            let (ours, theirs) = (shown(ours), shown(theirs));
+            let (ours, theirs) = (shown(ours, theirs), shown(theirs, ours));
             format!(
                 "{}: {}\n  library {ours}\n  second  {theirs}",
                 call.name(),
@@ -77,10 +76,10 @@ impl Told {
     pub fn table(&self) -> String {
         let mut table = String::from("answer");
         for call in CALLS {
-            write!(table, "{:>13}", call.name()).expect("a string takes all");
+            table += &format!("{:>13}", call.name());
         }
         for answer in 0..ANSWERS {
-            write!(table, "\n{answer:>6}").expect("a string takes all");
+            table += &format!("\n{answer:>6}");
             for call in CALLS {
                 let given = call.answers().contains(&(answer as u8));
                 match self.met[call as usize][answer] {
@@ -119,13 +118,14 @@ impl Told {
     }
 }
 
-/// Bytes that are all the same are told once; a long buffer is cut.
-fn shown(seen: &Seen) -> String {
+/// The numbers, and of each buffer the bytes from shortly before the first that differs.
+fn shown(seen: &Seen, other: &Seen) -> String {
     let mut shown = format!("answer {} numbers {:?}", seen.answer, seen.numbers);
-    for buffer in &seen.buffers {
-        write!(shown, " buffer {} ", buffer.len()).expect("a string takes all");
-        let kept = &buffer[..buffer.len().min(200)];
-        shown.extend(kept.iter().map(|byte| format!("{byte:02x}")));
+    for (buffer, beside) in seen.buffers.iter().zip(&other.buffers) {
+        let same = buffer.iter().zip(beside).take_while(|(a, b)| a == b);
+        let from = same.count().saturating_sub(8);
+        let part = &buffer[from..buffer.len().min(from + 40)];
+        shown += &format!(" {} bytes, from {from} on {part:?}", buffer.len());
     }
     shown
 }

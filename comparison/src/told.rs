@@ -125,7 +125,8 @@ fn shown(seen: &Seen, other: &Seen) -> String {
         let same = buffer.iter().zip(beside).take_while(|(a, b)| a == b);
         let from = same.count().saturating_sub(8);
         let part = &buffer[from..buffer.len().min(from + 40)];
-        shown += &format!(" {} bytes, from {from} on {part:?}", buffer.len());
+        let (length, part) = (buffer.len(), part.escape_ascii());
+        shown += &format!(" {length} bytes, from {from} on \"{part}\"");
     }
     shown
 }

@@ -6,3 +6,6 @@ pub mod Commands
 pub mod Turn
 pub mod Beginning
 pub mod Whole
+pub mod Unique
+pub mod Example
+pub mod Again

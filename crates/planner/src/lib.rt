@@ -6,16 +6,20 @@ use questions::Held;
 use readers::CommandRead;
 use readers::RegisterRead;
 use rights::Command;
+use rights::Entry;
 use rights::Header;
 use rights::Office;
+use rights::Ran;
 ghost use mathlib.Core.Path.{_≡_};
 ghost use Rattle.rights.specs.Command.{outcome};
 ghost use Rattle.rights.specs.Question.{answered};
+ghost use Rattle.rights.specs.Run.{runOutcome};
 ghost use Rattle.wording.specs.RegisterReader.{registerRead};
 ghost use Rattle.wording.specs.Writer.{headerWritten, rowWritten, endWritten};
 ghost use Rattle.commands.specs.Post.{Answers};
 ghost use Rattle.printing.specs.Told.{Told};
 ghost use Rattle.readers.specs.Told.{RegisterTold, commandTold};
+ghost use Rattle.runs.specs.Post.{RanAs};
 
 // One command: the answer, the tally, and the register as the command leaves it.
 #[no_mangle]
@@ -23,6 +27,14 @@ pub extern "C" fn rights_command(cells: &mut [u8], header: Header, command: Comm
     ensures { λ r. ⌜ Answers (outcome header (now (cells .entry)) command) r (now (cells .exit)) ⌝ }
 {
     commands::command(cells, header, command)
+}
+
+// A run of commands: the answer, the tally, the register as the run leaves it, and each entry with its answer.
+#[no_mangle]
+pub extern "C" fn rights_run(cells: &mut [u8], header: Header, entries: &mut [Entry]) -> Ran
+    ensures { λ r. ⌜ RanAs (runOutcome header (now (cells .entry)) (now (entries .entry))) r (now (cells .exit)) (now (entries .exit)) ⌝ }
+{
+    runs::run(cells, header, entries)
 }
 
 // The holding question: the answer and the chain.

@@ -39,6 +39,12 @@ const LARGE: Effort = Effort {
     rows: 1,
 };
 
+/// The first registers of each large size have a question for every office, too.
+const FIRST_LARGE: Effort = Effort {
+    offices: 128,
+    ..LARGE
+};
+
 /// Registers of up to so many offices are tried with all the effort.
 const FEW: u16 = 12;
 
@@ -54,7 +60,11 @@ fn size(random: &mut Random, round: u64) -> u16 {
 
 pub fn round(told: &mut Told, random: &mut Random, round: u64) {
     let n = size(random, round);
-    let effort = if n <= FEW { SMALL } else { LARGE };
+    let effort = match (n <= FEW, round < 240) {
+        (true, _) => SMALL,
+        (false, true) => FIRST_LARGE,
+        (false, false) => LARGE,
+    };
     let map = maps::sound(random, n);
     ask(told, random, &map, &effort);
     write(told, random, &map, &effort);

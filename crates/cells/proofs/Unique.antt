@@ -14,6 +14,7 @@ use Rattle.cells.proofs.size.Reads as size
 use Rattle.cells.proofs.cell.Reads as cell
 use Rattle.cells.proofs.headed.Reads as headed
 use Rattle.cells.proofs.whole.Reads as whole
+use Rattle.cells.proofs.readable.Reads as readable
 
 -- at most one value is as told
 abbrev pub Once : {A : Type 0} → (A → Type 0) → Type 0
@@ -55,3 +56,6 @@ headed-once κs a exit = no-second _
 
 pub whole-once : (κs : _) (a : _) (exit : _) → Once (λ (r : Bool). whole.Post κs a r exit)
 whole-once κs a exit = no-second _
+
+pub readable-once : (κs : _) (a : _) (exit : _) → Once (λ (r : Bool). readable.Post κs a r exit)
+readable-once κs a exit = no-second _

@@ -9,7 +9,7 @@ ghost use Prim.Native.Nat.{_≤_};
 ghost use lib.Dec.{eqb, leb};
 ghost use Rattle.rights.specs.Permission.{isCode, need, decoded};
 ghost use Rattle.rights.specs.Register.{cell as cellOf};
-ghost use Rattle.rights.specs.Sound.{headed as isHeaded, whole as isWhole};
+ghost use Rattle.rights.specs.Sound.{headed as isHeaded, whole as isWhole, readable as isReadable};
 ghost use Rattle.rights.specs.Cell.{has as hasRecord, carries as cellCarries, size as cellSize, union as cellUnion, without as cellWithout, restrict as restrictCell};
 
 // Whether the number is the code of a permission.
@@ -178,4 +178,14 @@ pub fn whole(cells: &[u8], header: Header) -> bool
 {
     let n = header.n as usize;
     cells.len() == n * n
+}
+
+// Whether the header is one, and the buffer holds the cells of its register.
+pub fn readable(cells: &[u8], header: Header) -> bool
+    ensures { λ r. ⌜ r ≡ isReadable header (now (cells .entry)) ⌝ }
+{
+    if headed(header) {
+        return whole(cells, header);
+    }
+    false
 }

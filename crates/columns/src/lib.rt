@@ -58,7 +58,7 @@ fn restrict_each_marked(cells: &mut [u8], header: Header, columns: [u8; 128], le
 pub fn restrict_columns(cells: &mut [u8], header: Header, columns: [u8; 128], levels: [u8; 128])
     ensures { λ r. ⌜ now (cells .exit) ≡ ifWhole header (now (cells .entry)) (restricted header (now (cells .entry)) (columnsTo (isMarked columns) levels)) ⌝ }
 {
-    if rows::is_whole(cells, header) {
+    if cells::readable(cells, header) {
         restrict_each_marked(cells, header, columns, levels);
     }
 }

@@ -1,7 +1,7 @@
 -- Refusals in order: which of them a passed test rules out. Assumes nothing.
-use Prim.Native.Nat.{ℕ, _<_, _≤_}
-use mathlib.Core.Path.{_≡_, refl, ap, sym, _∙_}
-use mathlib.Core.Bool.{Bool, true, false, _&&_, not, cond}
+use Prim.Native.Nat.{ℕ, _<_}
+use mathlib.Core.Path.{_≡_, ap, sym, _∙_}
+use mathlib.Core.Bool.{Bool, true, _&&_, not}
 use mathlib.Core.List.{List}
 use lib.ListN.{getD}
 use lib.Dec.{eqb, leb, ltb}
@@ -10,13 +10,13 @@ use Rattle.rights.specs.declared.Header.{Header}
 use Rattle.rights.specs.declared.Command.{Command}
 use Rattle.rights.specs.Permission.{Permission, need}
 use Rattle.rights.specs.Level.{levelIn, levels}
-use Rattle.rights.specs.Sound.{headed, whole, sound, barred, firstOf, unless, registerRefusal}
+use Rattle.rights.specs.Sound.{headed, whole, sound, barred, firstOf, unless, registerRefusal, readable}
 use Rattle.rights.specs.Command.{byOf, toOf, wellFormed, mayGrant, formRefusal}
 use Rattle.theory.proofs.Tests.{both, left-of}
 use Rattle.theory.proofs.Ready.{headed-inside}
 use Rattle.theory.proofs.Sound.{may-grant}
 use Rattle.theory.proofs.Outcome.{none-of, holds-unless}
-use Rattle.levels.specs.Padded.{readable, paddedLevels}
+use Rattle.levels.specs.Padded.{paddedLevels}
 use Rattle.levels.proofs.Given.{level-padded, levels-read}
 
 -- the first refusal that applies
@@ -29,7 +29,7 @@ unfolding firstOf
 first-passed a b e = rw (eq-eqb a 0 e)
 
 -- a register that is not refused can be read
-pub register-read : (h : Header) (R : List ℕ) → registerRefusal h R ≡ 0 → headed h && whole h R ≡ true
+pub register-read : (h : Header) (R : List ℕ) → registerRefusal h R ≡ 0 → readable h R ≡ true
 unfolding registerRefusal
 register-read h R e =
     let later = none-of (unless (headed h) 1) (firstOf (unless (whole h R) 2) (unless (sound h R) 3)) e in
@@ -49,9 +49,9 @@ grantor-inside h c e =
 
 -- the grantor's level tells what it may grant
 pub granting :
-    (h : Header) (R : List ℕ) (i : ℕ) (p : Permission) → headed h && whole h R ≡ true → i < h .n →
+    (h : Header) (R : List ℕ) (i : ℕ) (p : Permission) → readable h R ≡ true → i < h .n →
     {ls : List ℕ} {e : Bool} → ls ≡ paddedLevels h R → e ≡ leb (need p) (getD ls i 0) → mayGrant h R i p ≡ e
-unfolding readable levelIn
+unfolding levelIn
 granting h R i p t l level e =
     may-grant h R (headed-inside h (left-of (headed h) (whole h R) t)) i p l
     ∙ ap (leb (need p)) (sym (ap (λ (ls : List ℕ). getD ls i 0) (level ∙ levels-read h R t) ∙ level-padded (levels h R) i))

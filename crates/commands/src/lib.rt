@@ -7,7 +7,7 @@ ghost use mathlib.Core.Path.{_≡_};
 ghost use mathlib.Core.Bool.{true, _&&_};
 ghost use Prim.Native.Nat.{_<_};
 ghost use lib.Dec.{ltb};
-ghost use Rattle.rights.specs.Sound.{headed, whole, barred as isBarred};
+ghost use Rattle.rights.specs.Sound.{barred as isBarred, readable};
 ghost use Rattle.rights.specs.Command.{wellFormed, grantRefusal, deletionRefusal, formRefusal, refusal as refusalOf, carriedOut, outcome};
 ghost use Rattle.rows.specs.Whole.{ifWhole};
 ghost use Rattle.tally.specs.Missing.{missingIfWhole};
@@ -79,7 +79,7 @@ fn form_refusal(header: Header, command: Command) -> u8
 
 // Refusals 8 and 9, for grants: the grantor's level tells what it may grant.
 fn grant_refusal(cells: &[u8], header: Header, command: Command) -> u8
-    requires { ⌜ (headed header && whole header (now cells) ≡ true) × (command .by .0 < header .n) ⌝ }
+    requires { ⌜ (readable header (now cells) ≡ true) × (command .by .0 < header .n) ⌝ }
     ensures { λ r. ⌜ r ≡ grantRefusal header (now (cells .entry)) command ⌝ }
 {
     let by = command.by;

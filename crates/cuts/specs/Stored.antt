@@ -6,7 +6,7 @@ use lib.Dec.{eqb}
 use Rattle.rights.specs.declared.Header.{Header}
 use Rattle.rights.specs.Cell.{union, without}
 use Rattle.rights.specs.Register.{cell, register}
-use Rattle.rights.specs.Sound.{headed, whole}
+use Rattle.rights.specs.Sound.{readable}
 
 -- the register with v in the cell i, j; there is no such cell where i or j is no office
 unfoldable pub stored : Header → List ℕ → ℕ → ℕ → ℕ → List ℕ
@@ -22,4 +22,4 @@ handedAt h R N i j k = cond (eqb k i) N (stored h N i k (takenOver h R N i j k))
 
 -- S where the header makes a register of both buffers, and otherwise R as it was
 unfoldable pub ifBothWhole : Header → List ℕ → List ℕ → List ℕ → List ℕ
-ifBothWhole h before R S = cond (headed h && whole h before && whole h R) S R
+ifBothWhole h before R S = cond (readable h before && readable h R) S R

@@ -1,24 +1,24 @@
 -- What the steps of each deletion come to, taken together. Assumes nothing.
-use Prim.Native.Nat.{ℕ, _*_, _<_, _≤_}
+use Prim.Native.Nat.{ℕ, _*_, _<_}
 use native.Mathlib.Omega.{arith}
 use mathlib.Core.Path.{_≡_, refl, ap, ap₂, sym, _∙_}
 use mathlib.Core.Logic.{⊎-elim}
-use mathlib.Core.Bool.{Bool, true, _&&_}
+use mathlib.Core.Bool.{true}
 use mathlib.Core.List.{List}
-use lib.ListN.{length, set, getD, replicate, length-replicate, getD-replicate}
+use lib.ListN.{length, replicate, getD-replicate}
 use lib.Seq.{getD-set-same, getD-set-other}
 use lib.Dec.{eqb}
 use borrow.Author.Tests.{eq-eqb, ne-eqb}
 use Rattle.rights.specs.declared.Header.{Header}
-use Rattle.rights.specs.Sound.{headed, whole}
+use Rattle.rights.specs.Sound.{headed, whole, readable}
 use Rattle.rights.specs.Restriction.{restricted, rowsTo, emptyWhere, isCell, rowTo, columnsTo, sweep, emptied}
 use Rattle.rights.specs.Level.{levelIn, levels, independentLevels}
 use Rattle.rights.specs.Deletion.{wgd, columnStep, handedOver, rowSettled}
-use Rattle.theory.proofs.Tests.{both, left-of, right-of}
+use Rattle.theory.proofs.Tests.{both, left-of}
 use Rattle.theory.proofs.Below.{same-or-not}
 use Rattle.theory.proofs.Ready.{headed-high}
 use Rattle.theory.proofs.Restriction.{length-restricted, restricted-ext}
-use Rattle.levels.specs.Padded.{padded, readable, paddedLevels, paddedIndependent}
+use Rattle.levels.specs.Padded.{padded, paddedLevels, paddedIndependent}
 use Rattle.columns.specs.Marked.{isMarked}
 use Rattle.deletions.specs.Kept.{onlyMark}
 use Rattle.rows.specs.Whole.{ifWhole}
@@ -61,8 +61,8 @@ only-marked j y l =
     (same-or-not y j)
 
 module _ (h : Header) (R : List ℕ) (i j : ℕ) where
-  columns-stepped : headed h && whole h R ≡ true → restricted h R (columnsTo (isMarked (onlyMark j)) (paddedIndependent h R i)) ≡ columnStep h R i j
-  unfolding columnStep columnsTo paddedIndependent readable
+  columns-stepped : readable h R ≡ true → restricted h R (columnsTo (isMarked (onlyMark j)) (paddedIndependent h R i)) ≡ columnStep h R i j
+  unfolding columnStep columnsTo paddedIndependent
   columns-stepped t =
       let few = headed-high h (left-of (headed h) (whole h R) t) in
       rw t
@@ -84,10 +84,10 @@ module _ (h : Header) (R : List ℕ) (i j : ℕ) where
 -- row j settled: j's level is taken after the column step, and what row j lost is handed over
 pub settle-made :
     (h : Header) (B M : List ℕ) (i j : ℕ) {ls L C S : List ℕ} {v : ℕ} →
-    headed h && whole h M ≡ true → headed h && whole h B ≡ true →
+    readable h M ≡ true → readable h B ≡ true →
     ls ≡ paddedLevels h M → v ≡ levelIn ls j → L ≡ ifWhole h M (restricted h M (rowTo j v)) → C ≡ B →
     S ≡ ifBothWhole h C L (handedOver h C L i j) → S ≡ rowSettled h B M i j
-unfolding ifBothWhole ifWhole rowSettled readable
+unfolding ifBothWhole ifWhole rowSettled
 settle-made h B M i j {v = v} m b e level l c s =
     let settled : restricted h M (rowTo j v) ≡ restricted h M (rowTo j (levelIn (levels h M) j)) =
     ap (λ (v : ℕ). restricted h M (rowTo j v)) (level ∙ ap (λ (ls : List ℕ). levelIn ls j) (e ∙ levels-read h M m) ∙ level-padded (levels h M) j)
@@ -95,5 +95,5 @@ settle-made h B M i j {v = v} m b e level l c s =
     let N = restricted h M (rowTo j (levelIn (levels h M) j)) in
     let kept : ifWhole h M (restricted h M (rowTo j v)) ≡ N = rw m settled in
     let made = l ∙ kept in
-    let sized = right-of (headed h) (whole h N) (still-whole h M N m (length-restricted h M (rowTo j (levelIn (levels h M) j)))) in
-    s ∙ ap₂ (λ (C L : List ℕ). ifBothWhole h C L (handedOver h C L i j)) c made ∙ rw (both b sized)
+    let still = still-whole h M N m (length-restricted h M (rowTo j (levelIn (levels h M) j))) in
+    s ∙ ap₂ (λ (C L : List ℕ). ifBothWhole h C L (handedOver h C L i j)) c made ∙ rw (both b still)

@@ -3,12 +3,12 @@
 use rights::Header;
 use rights::Office;
 ghost use mathlib.Core.Path.{_≡_};
-ghost use mathlib.Core.Bool.{true, _&&_};
+ghost use mathlib.Core.Bool.{true};
 ghost use Prim.Native.Nat.{min, _≤_};
 ghost use lib.ListN.{length, take};
 ghost use Rattle.rights.specs.Restriction.{sweep as swept};
 ghost use Rattle.rights.specs.Deletion.{wgd as weakGlobal, wld as weakLocal, sld as strongLocal, columnStep, rowSettled};
-ghost use Rattle.rights.specs.Sound.{headed, whole};
+ghost use Rattle.rights.specs.Sound.{readable};
 ghost use Rattle.rights.specs.Level.{levelIn};
 ghost use Rattle.rows.specs.Whole.{ifWhole};
 ghost use Rattle.deletions.specs.Kept.{copyOf, onlyMark};
@@ -84,7 +84,7 @@ pub fn column_step(cells: &mut [u8], header: Header, by: Office, to: Office)
 // Row j to the level that the column step has left j, and what it lost by that to i. `before` is the register as the command found
 // it, and zeros after it.
 fn settle_row(cells: &mut [u8], header: Header, by: Office, to: Office, before: &[u8])
-    requires { ⌜ (headed header && whole header (now cells) ≡ true) × (headed header && whole header (take (length (now cells)) (now before)) ≡ true) × (length (now cells) ≤ length (now before)) ⌝ }
+    requires { ⌜ (readable header (now cells) ≡ true) × (readable header (take (length (now cells)) (now before)) ≡ true) × (length (now cells) ≤ length (now before)) ⌝ }
     ensures { λ r. ⌜ now (cells .exit) ≡ rowSettled header (take (length (now (cells .entry))) (now (before .entry))) (now (cells .entry)) (by .0) (to .0) ⌝ }
 {
     let levels = levels::levels(cells, header);
@@ -97,7 +97,7 @@ fn settle_row(cells: &mut [u8], header: Header, by: Office, to: Office, before: 
 pub fn wld(cells: &mut [u8], header: Header, by: Office, to: Office)
     ensures { λ r. ⌜ now (cells .exit) ≡ ifWhole header (now (cells .entry)) (weakLocal header (now (cells .entry)) (by .0) (to .0)) ⌝ }
 {
-    if rows::is_whole(cells, header) {
+    if cells::readable(cells, header) {
         let before = copied(cells);
         cuts::empty_cell(cells, header, by, to);
         settle_row(cells, header, by, to, &before);
@@ -108,7 +108,7 @@ pub fn wld(cells: &mut [u8], header: Header, by: Office, to: Office)
 pub fn sld(cells: &mut [u8], header: Header, by: Office, to: Office)
     ensures { λ r. ⌜ now (cells .exit) ≡ ifWhole header (now (cells .entry)) (strongLocal header (now (cells .entry)) (by .0) (to .0)) ⌝ }
 {
-    if rows::is_whole(cells, header) {
+    if cells::readable(cells, header) {
         let before = copied(cells);
         column_step(cells, header, by, to);
         settle_row(cells, header, by, to, &before);

@@ -9,7 +9,7 @@ use Rattle.rights.specs.Cell.{carries}
 use Rattle.rights.specs.Register.{cell}
 use Rattle.rights.specs.Below.{table}
 use Rattle.rights.specs.Level.{levelIn, levels, holdsBy}
-use Rattle.rights.specs.Sound.{headed, whole}
+use Rattle.rights.specs.Sound.{readable}
 use Rattle.levels.specs.Padded.{padded}
 
 -- x has the level that p needs and a link to y that carries p
@@ -31,4 +31,4 @@ markBy h R before S now y = cond (loses h R before S now y) 1 0
 -- a mark for each office, and nothing after them; nobody where either register cannot be read
 unfoldable pub paddedLosers : Header → List ℕ → List ℕ → List ℕ
 paddedLosers h R S =
-    padded 0 (cond (headed h && whole h R && whole h S) (table (h .n) (markBy h R (levels h R) S (levels h S))) [])
+    padded 0 (cond (readable h R && readable h S) (table (h .n) (markBy h R (levels h R) S (levels h S))) [])

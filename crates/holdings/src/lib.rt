@@ -3,13 +3,11 @@
 use rights::Header;
 use rights::Office;
 ghost use mathlib.Core.Path.{_≡_};
-ghost use mathlib.Core.Bool.{_&&_};
 ghost use Prim.Native.Nat.{_≤_, _<_};
 ghost use Rattle.levels.specs.Padded.{padded};
 ghost use Rattle.rights.specs.Below.{table};
 ghost use Rattle.rights.specs.Permission.{decoded};
 ghost use Rattle.rights.specs.Level.{holdsBy};
-ghost use Rattle.rights.specs.Sound.{headed, whole};
 ghost use Rattle.holdings.specs.Loser.{passesOn, losesOne, loses as losesBy, markBy, paddedLosers};
 
 // Whether office x may pass the permission on to y and has a link there that carries it.
@@ -124,26 +122,16 @@ fn loser_marks(
     marks
 }
 
-// Whether both registers can be read: refusals 1 and 2 do not apply.
-fn readable(before: &[u8], after: &[u8], header: Header) -> bool
-    ensures { λ r. ⌜ r ≡ headed header && whole header (now (before .entry)) && whole header (now (after .entry)) ⌝ }
-{
-    if cells::headed(header) {
-        if cells::whole(before, header) {
-            return cells::whole(after, header);
-        }
-    }
-    false
-}
-
 // The offices that hold fewer permissions after than before, each marked 1; nobody where either register cannot be read.
 pub fn losers(before: &[u8], after: &[u8], header: Header) -> [u8; 128]
     ensures { λ r. ⌜ r ≡ paddedLosers header (now (before .entry)) (now (after .entry)) ⌝ }
 {
-    if readable(before, after, header) {
-        let before_levels = levels::levels(before, header);
-        let after_levels = levels::levels(after, header);
-        return loser_marks(before, &before_levels, after, &after_levels, header);
+    if cells::readable(before, header) {
+        if cells::readable(after, header) {
+            let before_levels = levels::levels(before, header);
+            let after_levels = levels::levels(after, header);
+            return loser_marks(before, &before_levels, after, &after_levels, header);
+        }
     }
     [0u8; 128]
 }

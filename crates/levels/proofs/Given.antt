@@ -11,12 +11,12 @@ use Rattle.rights.specs.Below.{table}
 use Rattle.rights.specs.Permission.{Permission, TT, TF}
 use Rattle.rights.specs.Register.{soaOf}
 use Rattle.rights.specs.Level.{isIn, linked, reached, levelsAmong, everyOffice, otherThan, levels, independentLevels, levelIn}
-use Rattle.rights.specs.Sound.{headed, whole}
+use Rattle.rights.specs.Sound.{headed, whole, readable}
 use Rattle.theory.proofs.Tests.{left-of}
 use Rattle.theory.proofs.Below.{table-ext}
 use Rattle.theory.proofs.Ready.{headed-inside, headed-high}
 use Rattle.levels.specs.Round.{levelBy}
-use Rattle.levels.specs.Padded.{padded, readable, paddedLevels, paddedIndependent}
+use Rattle.levels.specs.Padded.{padded, paddedLevels, paddedIndependent}
 use Rattle.levels.proofs.Padded.{getD-padded}
 use Rattle.levels.proofs.Rounds.{in-padded, marksAfter}
 
@@ -54,7 +54,6 @@ nobody-out h R out l =
 
 -- what the search for levels asks of a header
 pub readable-header : (h : Header) (R : List ℕ) → readable h R ≡ true → (h .n ≤ 128) × (soaOf h < h .n)
-unfolding readable
 readable-header h R e = let head = left-of (headed h) (whole h R) e in (headed-high h head, headed-inside h head)
 
 -- the array has each office's level where the list has it, and 0 wherever else

@@ -1,19 +1,15 @@
 -- Arrays of 128 entries, one for each office there can be: an entry for each of the n offices, and nothing after them.
 use Prim.Native.Nat.{ℕ, _-_}
-use mathlib.Core.Bool.{Bool, _&&_, cond}
+use mathlib.Core.Bool.{cond}
 use mathlib.Core.List.{List, [], _++_}
 use lib.ListN.{length, replicate}
 use Rattle.rights.specs.declared.Header.{Header}
 use Rattle.rights.specs.Level.{levels, independentLevels}
-use Rattle.rights.specs.Sound.{headed, whole}
+use Rattle.rights.specs.Sound.{readable}
 
 -- the list, made up to 128 entries
 unfoldable pub padded : {A : Type 0} → A → List A → List A
 padded none l = l ++ replicate (128 - length l) none
-
--- refusals 1 and 2 do not apply
-unfoldable pub readable : Header → List ℕ → Bool
-readable h R = headed h && whole h R
 
 -- the level of each office; 0 for all where the register cannot be read
 unfoldable pub paddedLevels : Header → List ℕ → List ℕ

@@ -10,7 +10,7 @@ ghost use Rattle.rights.specs.Permission.{decoded};
 ghost use Rattle.rights.specs.Register.{soaOf};
 ghost use Rattle.rights.specs.Level.{linked as linkedTo, reached as reachedBy, otherThan, independentLevels};
 ghost use Rattle.levels.specs.Round.{linkedBy, markedFirst, markedNext, marking, sameMarks, levelBy};
-ghost use Rattle.levels.specs.Padded.{padded, readable as isReadable, paddedLevels, paddedIndependent};
+ghost use Rattle.levels.specs.Padded.{padded, paddedLevels, paddedIndependent};
 
 // Whether x is marked and its link to y carries the permission: a grantor that is not marked passes nothing on.
 fn links(cells: &[u8], header: Header, perm: u8, marks: &[bool; 128], x: u16, y: u16) -> bool
@@ -161,21 +161,11 @@ fn levels_without(cells: &[u8], header: Header, out: u16) -> [u8; 128]
     levels_by(header.n, &whole, &part)
 }
 
-// Whether n, SOA and the number of cells are as they have to be.
-fn readable(cells: &[u8], header: Header) -> bool
-    ensures { λ r. ⌜ r ≡ isReadable header (now (cells .entry)) ⌝ }
-{
-    if cells::headed(header) {
-        return cells::whole(cells, header);
-    }
-    false
-}
-
 // The level of each office, and 0 after them; 0 for all where the header or the length is refused.
 pub fn levels(cells: &[u8], header: Header) -> [u8; 128]
     ensures { λ r. ⌜ r ≡ paddedLevels header (now (cells .entry)) ⌝ }
 {
-    if readable(cells, header) {
+    if cells::readable(cells, header) {
         return levels_without(cells, header, header.n);
     }
     [0u8; 128]
@@ -186,7 +176,7 @@ pub fn levels(cells: &[u8], header: Header) -> [u8; 128]
 pub fn independent_levels(cells: &[u8], header: Header, office: Office) -> [u8; 128]
     ensures { λ r. ⌜ r ≡ paddedIndependent header (now (cells .entry)) (office .0) ⌝ }
 {
-    if readable(cells, header) {
+    if cells::readable(cells, header) {
         return levels_without(cells, header, office.0);
     }
     [0u8; 128]

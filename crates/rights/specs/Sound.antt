@@ -1,7 +1,7 @@
 -- Sound registers: in 01's words, and as a test that computes. That the two are one is a law.
 use Prim.Native.Nat.{ℕ, _*_, _<_, _≤_}
 use mathlib.Core.Path.{_≡_}
-use mathlib.Core.Bool.{Bool, true, false, _&&_, _||_, not, cond}
+use mathlib.Core.Bool.{Bool, true, _&&_, _||_, not, cond}
 use mathlib.Core.List.{List}
 use lib.ListN.{length}
 use lib.Dec.{eqb, leb, ltb}
@@ -20,6 +20,10 @@ headed h = leb 2 (h .n) && leb (h .n) 128 && ltb (soaOf h) (h .n)
 -- refusal 2 does not apply: n·n cells
 unfoldable pub whole : Header → List ℕ → Bool
 whole h R = eqb (length R) (h .n * h .n)
+
+-- neither applies, so that there are cells to read
+abbrev pub readable : Header → List ℕ → Bool
+readable h R = headed h && whole h R
 
 -- a permission of the grantor's entitles the record
 pub record Entitled (h : Header) (R : List ℕ) (i : ℕ) (p : Permission) : Type 0 where

@@ -8,11 +8,16 @@ use lib.Dec.{leb, ltb}
 use borrow.Author.Tests.{eqb-true, leb-true}
 use Rattle.rights.specs.declared.Header.{Header}
 use Rattle.rights.specs.Register.{soaOf}
-use Rattle.rights.specs.Sound.{headed, whole}
+use Rattle.rights.specs.Sound.{headed, whole, readable}
 use Rattle.rows.specs.Whole.{Whole, ifWhole}
 use Rattle.theory.proofs.Tests.{left-of, right-of}
 
-module _ (h : Header) (R : List ℕ) {test : Bool} (says : test ≡ headed h && whole h R) where
+-- where there is a register, what is done to it is done
+pub in-whole : (h : Header) (R S : List ℕ) → readable h R ≡ true → ifWhole h R S ≡ S
+unfolding ifWhole
+in-whole h R S t = rw t
+
+module _ (h : Header) (R : List ℕ) {test : Bool} (says : test ≡ readable h R) where
   pub whole-if : test ≡ true → Whole h R
   unfolding headed whole
   whole-if passed =
@@ -26,21 +31,8 @@ module _ (h : Header) (R : List ℕ) {test : Bool} (says : test ≡ headed h && 
       }
 
   pub changed-if : test ≡ true → {S T : List ℕ} → T ≡ S → T ≡ ifWhole h R S
-  unfolding ifWhole
-  changed-if passed e = rw (sym says ∙ passed) e
+  changed-if passed {S} e = e ∙ sym (in-whole h R S (sym says ∙ passed))
 
   pub kept-if : test ≡ false → (S : List ℕ) → R ≡ ifWhole h R S
   unfolding ifWhole
   kept-if failed S = rw (sym says ∙ failed)
-
-  -- where a second buffer has to be a register of the same header too
-  pub not-both : test ≡ false → (S : List ℕ) → headed h && whole h R && whole h S ≡ false
-  not-both failed S = rw (sym says ∙ failed)
-
-  pub both-as :
-      test ≡ true → (S : List ℕ) {second : Bool} → second ≡ headed h && whole h S →
-      headed h && whole h R && whole h S ≡ second
-  both-as passed S says-second =
-      let one : headed h && whole h R ≡ true = sym says ∙ passed in
-      let head : headed h ≡ true = left-of (headed h) (whole h R) one in
-      rw one (sym (rw head at says-second))

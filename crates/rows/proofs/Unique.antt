@@ -1,19 +1,14 @@
--- No second outcome: at most one result, and one list of bytes left behind, satisfies each contract. Assumes nothing.
+-- No second outcome: at most one list of bytes left behind satisfies each contract. Assumes nothing.
 -- `Post` is the contract as the check reads it: of the lifetimes, the arguments, the result and the arguments at exit.
 use Prim.Native.Nat.{ℕ}
-use mathlib.Core.Bool.{Bool}
 use mathlib.Core.List.{List}
 use denote.Ref.{RefT, at-last}
 use Rattle.rights.specs.declared.Header.{Header}
 use Rattle.rights.specs.declared.Office.{Office}
 use Rattle.cells.proofs.Unique.{Once, no-second}
-use Rattle.rows.proofs.is_whole.Reads as is-whole
 use Rattle.rows.proofs.restrict_row.Reads as restrict-row
 use Rattle.rows.proofs.restrict_rows.Reads as restrict-rows
 use Rattle.rows.proofs.restrict_one_row.Reads as restrict-one-row
-
-pub is-whole-once : (κs : _) (a : _) (exit : _) → Once (λ (r : Bool). is-whole.Post κs a r exit)
-is-whole-once κs a exit = no-second _
 
 pub restrict-row-once :
     (κs : _) (row : RefT (List ℕ)) (level : ℕ) →

@@ -3,23 +3,11 @@
 use rights::Header;
 use rights::Office;
 ghost use mathlib.Core.Path.{_≡_};
-ghost use mathlib.Core.Bool.{_&&_};
 ghost use mathlib.Core.List.{map};
 ghost use Prim.Native.Nat.{_<_};
 ghost use Rattle.rights.specs.Restriction.{restricted, rowTo, rowsTo};
-ghost use Rattle.rights.specs.Sound.{headed, whole};
 ghost use Rattle.rows.specs.Whole.{Whole, ifWhole};
 ghost use Rattle.rows.specs.Row.{atLevel};
-
-// Whether the header is one, and the buffer holds the cells of its register.
-pub fn is_whole(cells: &[u8], header: Header) -> bool
-    ensures { λ r. ⌜ r ≡ headed header && whole header (now (cells .entry)) ⌝ }
-{
-    if cells::headed(header) {
-        return cells::whole(cells, header);
-    }
-    false
-}
 
 // A row is restricted cell by cell, wherever it lies.
 pub fn restrict_row(row: &mut [u8], level: u8)
@@ -60,7 +48,7 @@ fn restrict_each_row(cells: &mut [u8], header: Header, levels: [u8; 128])
 pub fn restrict_rows(cells: &mut [u8], header: Header, levels: [u8; 128])
     ensures { λ r. ⌜ now (cells .exit) ≡ ifWhole header (now (cells .entry)) (restricted header (now (cells .entry)) (rowsTo levels)) ⌝ }
 {
-    if is_whole(cells, header) {
+    if cells::readable(cells, header) {
         restrict_each_row(cells, header, levels);
     }
 }
@@ -70,7 +58,7 @@ pub fn restrict_one_row(cells: &mut [u8], header: Header, row: Office, level: u8
     ensures { λ r. ⌜ now (cells .exit) ≡ ifWhole header (now (cells .entry)) (restricted header (now (cells .entry)) (rowTo (row .0) level)) ⌝ }
 {
     let i = row.0;
-    if is_whole(cells, header) {
+    if cells::readable(cells, header) {
         if i < header.n {
             restrict_row_of(cells, header, i as usize, level);
         }

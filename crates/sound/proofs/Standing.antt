@@ -7,11 +7,11 @@ use Rattle.rights.specs.declared.Header.{Header}
 use Rattle.rights.specs.Below.{allBelow}
 use Rattle.rights.specs.Register.{cell}
 use Rattle.rights.specs.Level.{levels, levelIn}
-use Rattle.rights.specs.Sound.{headed, whole, barred, soundCell, soundBy, sound, firstOf, unless, registerRefusal}
+use Rattle.rights.specs.Sound.{headed, whole, barred, soundCell, soundBy, sound, firstOf, unless, registerRefusal, readable}
 use Rattle.theory.proofs.Tests.{both, or-right}
 use Rattle.theory.proofs.Below.{all-ext}
 use Rattle.theory.proofs.Cell.{restrict-empty}
-use Rattle.levels.specs.Padded.{readable, paddedLevels}
+use Rattle.levels.specs.Padded.{paddedLevels}
 use Rattle.levels.proofs.Given.{level-padded, levels-read}
 
 -- an empty cell may stand anywhere
@@ -20,7 +20,6 @@ unfolding soundCell
 empty-stands h R ls i j e = rw (e, restrict-empty (levelIn ls i), or-right (not (barred h i j)) {b = true} refl)
 
 pub read : (h : Header) (R : List ℕ) → headed h ≡ true → whole h R ≡ true → readable h R ≡ true
-unfolding readable
 read h R e w = both e w
 
 -- a register that can be read is sound where it is sound by the array of levels

@@ -1,28 +1,27 @@
 -- What the steps of a round, and of the whole deletion, come to, taken together. Assumes nothing.
-use Prim.Native.Nat.{ℕ, _-_, _*_, _≤_, _<_}
+use Prim.Native.Nat.{ℕ, _-_, _≤_, _<_}
 use native.Mathlib.Omega.{arith}
 use mathlib.Core.Path.{_≡_, refl, ap, ap₂, sym, _∙_}
-use mathlib.Core.Bool.{Bool, true, false, _&&_, not, cond}
+use mathlib.Core.Bool.{Bool, true, false, not, cond}
 use mathlib.Core.List.{List}
 use lib.ListN.{length, take}
 use lib.Dec.{eqb}
 use Rattle.rights.specs.declared.Header.{Header}
 use Rattle.rights.specs.Below.{table}
-use Rattle.rights.specs.Sound.{headed, whole}
+use Rattle.rights.specs.Sound.{readable}
 use Rattle.rights.specs.Level.{isIn, levelIn, levels, independentLevels}
 use Rattle.rights.specs.Restriction.{restricted, columnsTo, sweep}
-use Rattle.rights.specs.Deletion.{losers, strongRound, same, columnStep, untilRest, sgd}
-use Rattle.theory.proofs.Tests.{both, left-of, right-of}
+use Rattle.rights.specs.Deletion.{losers, strongRound, columnStep, untilRest, sgd}
+use Rattle.theory.proofs.Tests.{both}
 use Rattle.theory.proofs.Below.{table-at}
-use Rattle.theory.proofs.Ready.{headed-high, whole-length}
 use Rattle.theory.proofs.Restriction.{length-restricted, restricted-ext}
 use Rattle.theory.proofs.Sweep.{length-sweep}
-use Rattle.levels.specs.Padded.{padded, readable, paddedIndependent}
+use Rattle.levels.specs.Padded.{padded, paddedIndependent}
 use Rattle.levels.proofs.Padded.{getD-padded}
 use Rattle.levels.proofs.Given.{independent-read}
 use Rattle.holdings.specs.Loser.{losesOne, loses, markBy, paddedLosers}
 use Rattle.rows.specs.Whole.{ifWhole}
-use Rattle.rows.proofs.Part.{square-small}
+use Rattle.rows.proofs.Guard.{in-whole}
 use Rattle.columns.specs.Marked.{isMarked}
 use Rattle.deletions.specs.Kept.{copyOf}
 use Rattle.deletions.proofs.Whole.{still-whole}
@@ -30,22 +29,17 @@ use Rattle.deletions.proofs.Made.{length-column-step}
 use Rattle.deletions.proofs.Copy.{copy-start}
 use Rattle.strong.proofs.Rest.{until-padded}
 
--- where there is a register, what is done to it is done
-in-whole : (h : Header) (R S : List ℕ) → headed h && whole h R ≡ true → ifWhole h R S ≡ S
-unfolding ifWhole
-in-whole h R S t = rw t
-
 mark-tells : (t : Bool) → not (eqb (cond t 1 0) 0) ≡ t
 mark-tells true = refl
 mark-tells false = refl
 
-module _ (h : Header) (R S : List ℕ) (r : headed h && whole h R ≡ true) (s : headed h && whole h S ≡ true) where
+module _ (h : Header) (R S : List ℕ) (r : readable h R ≡ true) (s : readable h S ≡ true) where
   -- whoever has lost is marked
   lost-marked : (y : ℕ) → y < h .n → isMarked (paddedLosers h R S) y ≡ isIn (losers h R S) y
   unfolding isMarked paddedLosers markBy loses losesOne losers isIn
   lost-marked y l =
       let marks = table (h .n) (markBy h R (levels h R) S (levels h S)) in
-      let kept : paddedLosers h R S ≡ padded 0 marks = rw (both r (right-of (headed h) (whole h S) s)) in
+      let kept : paddedLosers h R S ≡ padded 0 marks = rw (both r s) in
       ap (λ (l : List ℕ). isMarked l y) kept
       ∙ ap (λ (v : ℕ). not (eqb v 0)) (getD-padded 0 marks y ∙ table-at (h .n) (markBy h R (levels h R) S (levels h S)) y 0 l)
       ∙ mark-tells (loses h R (levels h R) S (levels h S) y)
@@ -74,7 +68,7 @@ pub kept-part : (R : List ℕ) {C : List ℕ} {m : ℕ} → C ≡ copyOf R → l
 kept-part R {m = m} c few e =
     let all : m - 0 ≡ length R = omega arith in ap₂ (λ (k : ℕ) (C : List ℕ). take k C) all c ∙ copy-start R few
 
-module _ (h : Header) (R : List ℕ) (r : headed h && whole h R ≡ true) (i j : ℕ) where
+module _ (h : Header) (R : List ℕ) (r : readable h R ≡ true) (i j : ℕ) where
   -- before the rounds
   pub start-made : {M W : List ℕ} → M ≡ ifWhole h R (columnStep h R i j) → W ≡ ifWhole h M (sweep h M) → W ≡ sweep h (columnStep h R i j)
   start-made m w =
@@ -83,13 +77,13 @@ module _ (h : Header) (R : List ℕ) (r : headed h && whole h R ≡ true) (i j :
       ∙ ap (λ (M : List ℕ). ifWhole h M (sweep h M)) (m ∙ in-whole h R T r)
       ∙ in-whole h T (sweep h T) (still-whole h R T r (length-column-step h R i j))
 
-  pub start-whole : {W : List ℕ} → W ≡ sweep h (columnStep h R i j) → headed h && whole h W ≡ true
+  pub start-whole : {W : List ℕ} → W ≡ sweep h (columnStep h R i j) → readable h W ≡ true
   start-whole {W} w = still-whole h R W r (ap length w ∙ length-sweep h (columnStep h R i j))
 
   pub sgd-made :
       {own B W N : List ℕ} → own ≡ paddedIndependent h R i → B ≡ R → W ≡ sweep h (columnStep h R i j) →
       N ≡ untilRest h B own (h .n) W → N ≡ sgd h R i j
-  unfolding sgd readable
+  unfolding sgd
   sgd-made {own} o b w n =
       let T = sweep h (columnStep h R i j) in
       n

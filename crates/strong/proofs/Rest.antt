@@ -3,11 +3,11 @@ use Prim.Native.Nat.{ℕ, zero, suc, _+_, _-_, _*_, _<_}
 use native.Mathlib.Omega.{arith}
 use mathlib.Core.Path.{_≡_, refl, ap, sym, _∙_}
 use mathlib.Core.Logic.{⊎-elim}
-use mathlib.Core.Bool.{Bool, true, false, _&&_, cond}
+use mathlib.Core.Bool.{Bool, true, false, cond}
 use mathlib.Core.List.{List}
 use lib.ListN.{length}
 use Rattle.rights.specs.declared.Header.{Header}
-use Rattle.rights.specs.Sound.{headed, whole}
+use Rattle.rights.specs.Sound.{headed, whole, readable}
 use Rattle.rights.specs.Level.{isIn}
 use Rattle.rights.specs.Restriction.{restricted, columnsTo, sweep}
 use Rattle.rights.specs.Deletion.{losers, strongRound, same, untilRest}
@@ -56,7 +56,7 @@ module _ (h : Header) (R own : List ℕ) where
     one-more = omega arith
 
     -- the round that alters nothing is the last
-    pub last-round : headed h && whole h S ≡ true → rests ≡ true → N ≡ rest
+    pub last-round : readable h S ≡ true → rests ≡ true → N ≡ rest
     last-round s q =
         let now : same h (strongRound h R own S) S ≡ true = rw made at (sym tells ∙ q) in
         made
@@ -74,5 +74,5 @@ module _ (h : Header) (R own : List ℕ) where
         ∙ ap (λ (m : ℕ). untilRest h R own m S) (sym one-more)
         ∙ left
 
-    pub round-whole : headed h && whole h S ≡ true → headed h && whole h N ≡ true
+    pub round-whole : readable h S ≡ true → readable h N ≡ true
     round-whole s = still-whole h S N s (ap length made ∙ length-round S)

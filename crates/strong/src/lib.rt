@@ -2,10 +2,10 @@
 use rights::Header;
 use rights::Office;
 ghost use mathlib.Core.Path.{_≡_};
-ghost use mathlib.Core.Bool.{true, _&&_};
+ghost use mathlib.Core.Bool.{true};
 ghost use Rattle.rights.specs.Below.{allBelow};
 ghost use Rattle.rights.specs.Deletion.{same as sameCells, strongRound, untilRest, sgd as strongGlobal};
-ghost use Rattle.rights.specs.Sound.{headed, whole};
+ghost use Rattle.rights.specs.Sound.{readable};
 ghost use Rattle.rows.specs.Whole.{ifWhole};
 ghost use Rattle.strong.specs.Same.{sameCell};
 
@@ -43,7 +43,7 @@ fn same(a: &[u8], b: &[u8], header: Header) -> bool
 
 // One round: the columns of those who have lost, and a sweep. It tells whether it altered nothing.
 fn strong_round(cells: &mut [u8], header: Header, own: [u8; 128], before: &[u8]) -> bool
-    requires { ⌜ (headed header && whole header (now cells) ≡ true) × (headed header && whole header (now before) ≡ true) ⌝ }
+    requires { ⌜ (readable header (now cells) ≡ true) × (readable header (now before) ≡ true) ⌝ }
     ensures after { λ r. ⌜ now (cells .exit) ≡ strongRound header (now (before .entry)) own (now (cells .entry)) ⌝ }
     ensures rests { λ r. ⌜ r ≡ sameCells header (now (cells .exit)) (now (cells .entry)) ⌝ }
 {
@@ -57,7 +57,7 @@ fn strong_round(cells: &mut [u8], header: Header, own: [u8; 128], before: &[u8])
 
 // Rounds until one alters nothing, n of them at most.
 fn rounds(cells: &mut [u8], header: Header, own: [u8; 128], before: &[u8])
-    requires { ⌜ (headed header && whole header (now cells) ≡ true) × (headed header && whole header (now before) ≡ true) ⌝ }
+    requires { ⌜ (readable header (now cells) ≡ true) × (readable header (now before) ≡ true) ⌝ }
     ensures { λ r. ⌜ now (cells .exit) ≡ untilRest header (now (before .entry)) own (header .n) (now (cells .entry)) ⌝ }
 {
     let n = header.n;
@@ -75,7 +75,7 @@ fn rounds(cells: &mut [u8], header: Header, own: [u8; 128], before: &[u8])
 pub fn sgd(cells: &mut [u8], header: Header, by: Office, to: Office)
     ensures { λ r. ⌜ now (cells .exit) ≡ ifWhole header (now (cells .entry)) (strongGlobal header (now (cells .entry)) (by .0) (to .0)) ⌝ }
 {
-    if rows::is_whole(cells, header) {
+    if cells::readable(cells, header) {
         let before = deletions::copied(cells);
         let own = levels::independent_levels(cells, header, by);
         deletions::column_step(cells, header, by, to);

@@ -6,8 +6,8 @@ use borrow.Author.Needs.{needs}
 use Rattle.cuts.proofs.add_record.Statement.{statement}
 use Rattle.cuts.proofs.add_record.Tie as tie
 
-is-whole-requires : tie.Need-is-whole-requires
-is-whole-requires c κs = search needs
+readable-requires : tie.Need-readable-requires
+readable-requires c κs = search needs
 
 cell-requires : tie.Need-cell-requires
 cell-requires c κs = search needs
@@ -22,7 +22,7 @@ store-requires : tie.Need-store-requires
 store-requires c κs =
     let whole = c .before .before .before .before .before in
     let start = whole .before .before .before .before in
-    whole-if (start .args .header) (start .args .cells .now) (whole .before .is-whole .ensures) (whole .if1 .taken)
+    whole-if (start .args .header) (start .args .cells .now) (whole .before .readable .ensures) (whole .if1 .taken)
 
 same-length : tie.Need-same-length
 same-length c = search needs
@@ -37,7 +37,7 @@ returns c =
     let start = whole .before .before .before .before in
     let h = start .args .header in
     let R = start .args .cells .now in
-    changed-if h R (whole .before .is-whole .ensures) (whole .if1 .taken)
+    changed-if h R (whole .before .readable .ensures) (whole .if1 .taken)
     (granted-by h R (start .args .i .0) (start .args .j .0) (decoded (start .args .perm)) (stood .cell .ensures)
     (added .record-of .ensures) (joining .union .ensures) (storing .store .ensures))
 
@@ -47,13 +47,13 @@ same-length-2 c = search needs
 returns-2 : tie.Need-returns-2
 returns-2 c =
     let start = c .before .before .before .before in
-    kept-if (start .args .header) (start .args .cells .now) (c .before .is-whole .ensures) (c .if1 .left) _
+    kept-if (start .args .header) (start .args .cells .now) (c .before .readable .ensures) (c .if1 .left) _
 
 pub add-record-spec : {M : Type 1} → statement M
 add-record-spec =
     tie.close
     (tie.spec
-    is-whole-requires
+    readable-requires
     cell-requires
     record-of-requires
     union-requires

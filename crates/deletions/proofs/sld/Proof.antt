@@ -2,13 +2,14 @@
 use mathlib.Core.Path.{sym, _∙_}
 use borrow.Author.Needs.{needs}
 use Rattle.rights.specs.Deletion.{sld}
+use Rattle.rows.proofs.Guard.{kept-if}
 use Rattle.deletions.proofs.Made.{length-column-step}
-use Rattle.deletions.proofs.Local.{lent, local-made, not-whole}
+use Rattle.deletions.proofs.Local.{lent, local-made}
 use Rattle.deletions.proofs.sld.Statement.{statement}
 use Rattle.deletions.proofs.sld.Tie as tie
 
-is-whole-requires : tie.Need-is-whole-requires
-is-whole-requires c κs = search needs
+readable-requires : tie.Need-readable-requires
+readable-requires c κs = search needs
 
 copied-requires : tie.Need-copied-requires
 copied-requires c κs = search needs
@@ -21,7 +22,7 @@ slice-aggregate-settle-row c = search needs
 
 settle-row-requires : tie.Need-settle-row-requires
 settle-row-requires c κs =
-    let whole = sym (c .before .before .before .before .before .before .before .before .before .is-whole .ensures) ∙ c .before .before .before .before .before .before .before .before .if1 .taken in
+    let whole = sym (c .before .before .before .before .before .before .before .before .before .readable .ensures) ∙ c .before .before .before .before .before .before .before .before .if1 .taken in
     let ready = lent _ _ _ whole (length-column-step _ _ _ _) (c .before .before .before .before .column-step .ensures) (c .before .before .before .before .before .before .copied .ensures) in
     (ready .here, ready .back, ready .room)
 
@@ -31,20 +32,20 @@ same-length c = search needs
 returns : tie.Need-returns
 unfolding sld
 returns c =
-    let whole = sym (c .before .before .before .before .before .before .before .before .before .before .before .before .is-whole .ensures) ∙ c .before .before .before .before .before .before .before .before .before .before .before .if1 .taken in
+    let whole = sym (c .before .before .before .before .before .before .before .before .before .before .before .before .readable .ensures) ∙ c .before .before .before .before .before .before .before .before .before .before .before .if1 .taken in
     local-made _ _ _ _ _ whole (length-column-step _ _ _ _) (c .before .before .before .before .before .before .before .column-step .ensures) (c .before .before .before .before .before .before .before .before .before .copied .ensures) (c .before .before .settle-row .ensures)
 
 same-length-2 : tie.Need-same-length-2
 same-length-2 c = search needs
 
 returns-2 : tie.Need-returns-2
-returns-2 c = not-whole _ _ _ (sym (c .before .is-whole .ensures) ∙ c .if1 .left)
+returns-2 c = kept-if _ _ (c .before .readable .ensures) (c .if1 .left) _
 
 pub sld-spec : {M : Type 1} → statement M
 sld-spec =
     tie.close
     (tie.spec
-    is-whole-requires
+    readable-requires
     copied-requires
     column-step-requires
     slice-aggregate-settle-row

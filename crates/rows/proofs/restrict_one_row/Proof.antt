@@ -6,8 +6,8 @@ use borrow.Author.Needs.{needs}
 use Rattle.rows.proofs.restrict_one_row.Statement.{statement}
 use Rattle.rows.proofs.restrict_one_row.Tie as tie
 
-is-whole-requires : tie.Need-is-whole-requires
-is-whole-requires c κs = search needs
+readable-requires : tie.Need-readable-requires
+readable-requires c κs = search needs
 
 cast-restrict-row-of : tie.Need-cast-restrict-row-of
 cast-restrict-row-of c = search needs
@@ -15,7 +15,7 @@ cast-restrict-row-of c = search needs
 restrict-row-of-requires : tie.Need-restrict-row-of-requires
 restrict-row-of-requires c κs =
     let start = c .before .before .before .before .before .before .before in (
-      whole-if (start .args .header) (start .args .cells .now) (c .before .before .before .before .is-whole .ensures) (c .before .before .before .if1 .taken),
+      whole-if (start .args .header) (start .args .cells .now) (c .before .before .before .before .readable .ensures) (c .before .before .before .if1 .taken),
       c .before .if2 .taken,
     )
 
@@ -26,7 +26,7 @@ returns : tie.Need-returns
 returns c =
     let at = c .before .before .before in
     let start = at .before .before .before .before .before .before .before in
-    changed-if (start .args .header) (start .args .cells .now) (at .before .before .before .before .is-whole .ensures)
+    changed-if (start .args .header) (start .args .cells .now) (at .before .before .before .before .readable .ensures)
     (at .before .before .before .if1 .taken) (c .before .before .restrict-row-of .ensures)
 
 same-length-2 : tie.Need-same-length-2
@@ -37,7 +37,7 @@ returns-2 c =
     let start = c .before .before .before .before .before .before in
     let h = start .args .header in
     let R = start .args .cells .now in
-    let says = c .before .before .before .is-whole .ensures in
+    let says = c .before .before .before .readable .ensures in
     let passed = c .before .before .if1 .taken in
     changed-if h R says passed
     (sym (rows-nowhere h R (whole-if h R says passed) (start .args .row .0) (start .args .level) (c .if2 .left)))
@@ -48,13 +48,13 @@ same-length-3 c = search needs
 returns-3 : tie.Need-returns-3
 returns-3 c =
     let start = c .before .before .before .before in
-    kept-if (start .args .header) (start .args .cells .now) (c .before .is-whole .ensures) (c .if1 .left) _
+    kept-if (start .args .header) (start .args .cells .now) (c .before .readable .ensures) (c .if1 .left) _
 
 pub restrict-one-row-spec : {M : Type 1} → statement M
 restrict-one-row-spec =
     tie.close
     (tie.spec
-    is-whole-requires
+    readable-requires
     cast-restrict-row-of
     restrict-row-of-requires
     same-length

@@ -2,10 +2,10 @@
 use Prim.Native.Nat.{ℕ, _≤_, _<_, _-_}
 use native.Mathlib.Omega.{arith}
 use mathlib.Core.Path.{_≡_, refl, ap, sym, _∙_}
-use mathlib.Core.Bool.{true, _&&_}
+use mathlib.Core.Bool.{true}
 use borrow.Author.Needs.{needs}
 use lib.ListN.{length}
-use Rattle.rights.specs.Sound.{headed, whole}
+use Rattle.rights.specs.Sound.{readable}
 use Rattle.rights.specs.Deletion.{untilRest}
 use Rattle.strong.proofs.Rest.{all-left, last-round, next-round, round-whole}
 use Rattle.strong.proofs.rounds.Statement.{statement}
@@ -13,7 +13,7 @@ use Rattle.strong.proofs.rounds.Tie as tie
 
 abbrev Inv-loop : tie.InvT-loop
 Inv-loop cells₀ header own before n k₀ cells k =
-    (k ≤ n) × (headed header && whole header cells ≡ true) × (untilRest header before own (n - k) cells ≡ untilRest header before own n cells₀) × (length cells ≡ length cells₀)
+    (k ≤ n) × (readable header cells ≡ true) × (untilRest header before own (n - k) cells ≡ untilRest header before own n cells₀) × (length cells ≡ length cells₀)
 
 abbrev μ-loop : tie.MeasureT-loop
 μ-loop cells₀ header own before n k₀ cells k = n - k

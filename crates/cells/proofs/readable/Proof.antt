@@ -1,9 +1,8 @@
--- `levels::readable` meets its contract. Assumes nothing.
+-- `cells::readable` meets its contract. Assumes nothing.
 use mathlib.Core.Path.{sym, _∙_}
 use borrow.Author.Needs.{needs}
-use Rattle.levels.specs.Padded.{readable}
-use Rattle.levels.proofs.readable.Statement.{statement}
-use Rattle.levels.proofs.readable.Tie as tie
+use Rattle.cells.proofs.readable.Statement.{statement}
+use Rattle.cells.proofs.readable.Tie as tie
 
 headed-requires : tie.Need-headed-requires
 headed-requires c κs = search needs
@@ -12,11 +11,9 @@ whole-requires : tie.Need-whole-requires
 whole-requires c κs = search needs
 
 returns : tie.Need-returns
-unfolding readable
-returns c = rw (sym (c .before .before .headed .ensures) ∙ c .before .if1 .taken, c .whole .ensures)
+returns c = rw (sym (c .before .before .headed .ensures) ∙ c .before .if1 .taken) (c .whole .ensures)
 
 returns-2 : tie.Need-returns-2
-unfolding readable
 returns-2 c = rw (sym (c .before .headed .ensures) ∙ c .if1 .left)
 
 pub readable-spec : {M : Type 1} → statement M

@@ -1,20 +1,18 @@
 -- What a refused command answers and leaves, and what one that is carried out does. Assumes nothing.
-use Prim.Native.Nat.{ℕ, _*_, _-_, _≤_}
-use native.Mathlib.Omega.{arith}
-use mathlib.Core.Path.{_≡_, refl, ap, sym, _∙_}
-use mathlib.Core.Bool.{Bool, true, false, _&&_, cond}
+use Prim.Native.Nat.{ℕ}
+use mathlib.Core.Path.{_≡_, sym, _∙_}
+use mathlib.Core.Bool.{true}
 use mathlib.Core.List.{List}
 use lib.ListN.{length, take}
-use lib.Dec.{eqb}
 use borrow.Author.Tests.{eq-eqb, ne-eqb}
 use Rattle.rights.specs.declared.Header.{Header}
 use Rattle.rights.specs.declared.Command.{Command}
-use Rattle.rights.specs.Sound.{headed, whole, sound, firstOf, unless, registerRefusal}
-use Rattle.rights.specs.Tally.{missing}
-use Rattle.rights.specs.Command.{isGrant, grantRefusal, deletionRefusal, formRefusal, refusal, carriedOut, refused, done, outcome}
-use Rattle.theory.proofs.Tests.{both, left-of, right-of}
+use Rattle.rights.specs.Sound.{headed, whole}
+use Rattle.rights.specs.Command.{refusal, carriedOut, refused, done, outcome}
+use Rattle.theory.proofs.Tests.{both}
 use Rattle.theory.proofs.Ready.{Ready, whole-length}
-use Rattle.theory.proofs.Outcome.{none-of, holds-unless, outcome-done, outcome-ready}
+use Rattle.theory.proofs.Refusals.{command-passed}
+use Rattle.theory.proofs.Outcome.{outcome-done, outcome-ready}
 use Rattle.rows.specs.Whole.{ifWhole}
 use Rattle.tally.specs.Missing.{missingIfWhole}
 use Rattle.deletions.specs.Kept.{copyOf}
@@ -31,23 +29,9 @@ refused-as h R c e ne =
     let applies = ne-eqb (refusal h R c) 0 (λ z. ne (e ∙ z)) in
     record { answer = rw applies e; removed = rw applies; added = rw applies; cells = rw applies }
 
--- a command that is not refused finds a register as 01 has it
-ready-of : (h : Header) (R : List ℕ) (c : Command) → refusal h R c ≡ 0 → Ready h R
-unfolding refusal registerRefusal
-ready-of h R c e =
-    let own = cond (isGrant c) (grantRefusal h R c) (deletionRefusal h R c) in
-    let register = none-of (registerRefusal h R) (firstOf (formRefusal h c) own) e .0 in
-    let later = none-of (unless (headed h) 1) (firstOf (unless (whole h R) 2) (unless (sound h R) 3)) register in
-    let last = none-of (unless (whole h R) 2) (unless (sound h R) 3) (later .1) in
-    record {
-      headed = holds-unless (headed h) 0 (later .0);
-      whole = holds-unless (whole h R) 1 (last .0);
-      sound = holds-unless (sound h R) 2 (last .1);
-    }
-
 module _ (h : Header) (R : List ℕ) (c : Command) {k : ℕ} (e : k ≡ refusal h R c) (z : k ≡ 0) where
   ready : Ready h R
-  ready = ready-of h R c (sym e ∙ z)
+  ready = command-passed h R c (sym e ∙ z) .register
 
   whole-carried : whole h (carriedOut h R c) ≡ true
   whole-carried = rw (outcome-done h R c (eq-eqb (refusal h R c) 0 (sym e ∙ z))) at (outcome-ready h R ready c .whole)

@@ -3,7 +3,7 @@ use Prim.Native.Nat.{ℕ, _+_, _*_, _≤_, _<_, zero-le}
 use native.Mathlib.Nat.{mul-le-mul-right}
 use native.Mathlib.Omega.{arith}
 use mathlib.Core.Path.{_≡_, refl, ap, ap₂, sym, _∙_}
-use mathlib.Core.Bool.{Bool, true, false, _&&_, not, cond}
+use mathlib.Core.Bool.{Bool, true, false, _&&_, not, cond, and-false}
 use mathlib.Core.List.{List}
 use lib.ListN.{length, List·getD-eq-default}
 use lib.Dec.{eqb, ltb}
@@ -23,10 +23,6 @@ unfolding cell
 cell-beyond h R whole x y l =
     List·getD-eq-default R 0
     (let rows : h .n * h .n ≤ x * h .n = mul-le-mul-right (h .n) l in omega (arith, whole .cells))
-
-and-false : (a : Bool) → a && false ≡ false
-and-false true = refl
-and-false false = refl
 
 -- a cell when the whole row was handed over
 unfoldable pub handed : Header → List ℕ → List ℕ → ℕ → ℕ → ℕ → ℕ → ℕ

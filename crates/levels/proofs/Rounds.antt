@@ -4,7 +4,7 @@ use native.Mathlib.Numerals.{add-one}
 use native.Mathlib.Omega.{arith}
 use mathlib.Core.Path.{_≡_, refl, ap, ap₂, sym, _∙_}
 use mathlib.Core.Logic.{⊎-elim}
-use mathlib.Core.Bool.{Bool, true, false, _&&_, _||_, not}
+use mathlib.Core.Bool.{Bool, true, false, _&&_, _||_, and-not-self}
 use mathlib.Core.List.{List}
 use lib.ListN.{length, getD, set, replicate, length-set, length-replicate}
 use lib.Seq.{getD-set-same, getD-set-other, ext-getD}
@@ -16,10 +16,9 @@ use Rattle.rights.specs.Permission.{Permission}
 use Rattle.rights.specs.Cell.{carries}
 use Rattle.rights.specs.Register.{cell, soaOf}
 use Rattle.rights.specs.Level.{isIn, linked, reached, otherThan}
-use Rattle.theory.proofs.Tests.{decided}
+use Rattle.theory.proofs.Tests.{decided, beq-same}
 use Rattle.theory.proofs.Below.{all-at, any-ext, table-ext, length-table}
 use Rattle.theory.proofs.Growth.{stays}
-use Rattle.cells.proofs.Byte.{beq-same}
 use Rattle.levels.specs.Round.{markedFirst, markedNext, marking, sameMark, sameMarks}
 use Rattle.levels.specs.Padded.{padded}
 use Rattle.levels.proofs.Padded.{all-none, getD-padded, length-padded, padded-of}
@@ -45,16 +44,12 @@ module _ (h : Header) (R : List ℕ) (out : ℕ) (p : Permission) where
   next-round d =
       sym (marking-ext (padded false (reached h R (otherThan out) p d)) (reached h R (otherThan out) p d) (in-padded (reached h R (otherThan out) p d)))
 
-not-both : (a : Bool) → a && not a ≡ false
-not-both true = refl
-not-both false = refl
-
 -- with SOA left out nobody is marked at first
 pub first-none : (h : Header) (out : ℕ) → h .n ≤ 128 → soaOf h ≡ out → replicate 128 false ≡ padded false (table (h .n) (markedFirst h out))
 unfolding markedFirst otherThan
 first-none h out small e =
     padded-of false (markedFirst h out) (h .n) (replicate 128 false) small (length-replicate 128 false)
-    (λ k l. all-none false 128 k ∙ sym (rw e (not-both (eqb k out))))
+    (λ k l. all-none false 128 k ∙ sym (rw e (and-not-self (eqb k out))))
     (λ k l. all-none false 128 k)
 
 -- and otherwise SOA alone

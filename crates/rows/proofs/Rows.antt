@@ -11,23 +11,14 @@ use borrow.Rule.Slice.PartMut.{midOf, putMid}
 use Rattle.rights.specs.declared.Header.{Header}
 use Rattle.rights.specs.Below.{table}
 use Rattle.rights.specs.Cell.{restrict}
-use Rattle.rights.specs.Register.{cell, register}
+use Rattle.rights.specs.Register.{cell}
 use Rattle.rights.specs.Restriction.{restricted, rowTo}
 use Rattle.rows.specs.Whole.{Whole}
 use Rattle.rows.specs.Row.{atLevel, onRow}
-use Rattle.theory.proofs.Register.{length-register, cell-register, register-ext, register-of}
+use Rattle.theory.proofs.Register.{register-ext, register-of}
+use Rattle.theory.proofs.Restriction.{restricted-cell, restricted-ext, length-restricted}
 use Rattle.rows.proofs.Table.{map-table, before-next}
 use Rattle.rows.proofs.Part.{row-part, put-row}
-
--- levels that agree on the offices restrict a register to the same
-pub restricted-ext :
-    (h : Header) (R : List ℕ) (to other : ℕ → ℕ → ℕ) →
-    ((x y : ℕ) → x < h .n → y < h .n → to x y ≡ other x y) →
-    restricted h R to ≡ restricted h R other
-unfolding restricted
-restricted-ext h R to other e =
-    register-ext h (λ x y. restrict (cell h R x y) (to x y)) (λ x y. restrict (cell h R x y) (other x y))
-    (λ x y hx hy. ap (restrict (cell h R x y)) (e x y hx hy))
 
 -- what level 2 keeps is as it was
 pub restricted-none : (h : Header) (R : List ℕ) → Whole h R → restricted h R (λ x y. 2) ≡ R
@@ -35,9 +26,7 @@ unfolding restricted restrict
 restricted-none h R whole = register-of h R (whole .cells)
 
 pub restricted-whole : (h : Header) (R : List ℕ) (to : ℕ → ℕ → ℕ) → Whole h R → Whole h (restricted h R to)
-unfolding restricted
-restricted-whole h R to whole =
-    record { cells = length-register h (λ x y. restrict (cell h R x y) (to x y)); few = whole .few }
+restricted-whole h R to whole = record { cells = length-restricted h R to; few = whole .few }
 
 -- a row that there is none of
 pub rows-nowhere : (h : Header) (R : List ℕ) → Whole h R → (k level : ℕ) → h .n ≤ k → restricted h R (rowTo k level) ≡ R
@@ -65,13 +54,13 @@ module _ (h : Header) (R : List ℕ) (whole : Whole h R) (to : ℕ → ℕ → �
       (k x y : ℕ) → x < h .n → y < h .n → (b : Bool) → eqb x k ≡ b →
       restrict (cell h (restricted h R (rowsBefore k to)) x y) (onRow k (to k) x y)
       ≡ restrict (cell h R x y) (rowsBefore (k + 1) to x y)
-  unfolding restricted rowsBefore onRow restrict
+  unfolding rowsBefore onRow restrict
   more-cell k x y hx hy true q =
       let same : x ≡ k = eqb-true x k q in
-      rw (cell-register h (λ x y. restrict (cell h R x y) (rowsBefore k to x y)) x y hx hy)
+      rw (restricted-cell h R (rowsBefore k to) x y hx hy)
       (rw (q, same, le-ltb k k (omega arith), lt-ltb k (k + 1) (omega arith)))
   more-cell k x y hx hy false q =
-      rw (q, before-next x k q) (cell-register h (λ x y. restrict (cell h R x y) (rowsBefore k to x y)) x y hx hy)
+      rw (q, before-next x k q) (restricted-cell h R (rowsBefore k to) x y hx hy)
 
   pub rows-more :
       (k : ℕ) → restricted h (restricted h R (rowsBefore k to)) (onRow k (to k)) ≡ restricted h R (rowsBefore (k + 1) to)

@@ -62,10 +62,6 @@ module _ (f : ℕ → ℕ) (xs : List ℕ) where
       table-ext (length xs) (λ m. cond (ltb m 0) (f m) (getD xs m 0)) (λ m. getD xs m 0) (λ m l. rw (le-ltb m 0 zero-le))
       ∙ table-of (length xs) xs 0 refl
 
-  pub up-to-length : (k : ℕ) → length (upTo k f xs) ≡ length xs
-  unfolding upTo
-  up-to-length k = length-table (length xs) (λ m. cond (ltb m k) (f m) (getD xs m 0))
-
   -- the element at which the loop stands is still as it was
   pub up-to-at : (k : ℕ) → k < length xs → getD (upTo k f xs) k 0 ≡ getD xs k 0
   unfolding upTo

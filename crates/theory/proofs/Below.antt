@@ -5,10 +5,12 @@ use native.Mathlib.Omega.{arith}
 use native.Mathlib.Decide.{ℕ-discrete, decLt}
 use mathlib.Core.Path.{_≡_, refl, ap, ap₂, sym, _∙_}
 use mathlib.Core.Logic.{_⊎_, inl, inr, ⊎-elim}
-use mathlib.Core.Bool.{Bool, true, false, _&&_, _||_, cond}
+use mathlib.Core.Bool.{Bool, true, false, _&&_, _||_}
 use mathlib.Core.List.{List, [], _∷_, _++_}
 use lib.ListN.{length, getD, length-append, List·getD-append}
 use lib.Seq.{getD-at, ext-getD}
+use lib.Dec.{eqb}
+use borrow.Author.Tests.{eqb-true}
 use Rattle.rights.specs.Below.{anyBelow, allBelow, sumBelow, table, firstBelow}
 use Rattle.theory.proofs.Tests.{both, left-of, right-of, or-left, or-right, either, decided, clash}
 
@@ -66,6 +68,10 @@ all-at zero f p k h = absurd (not-suc-le-zero h)
 all-at (suc n) f p k h =
     ⊎-elim (λ e. ap f e ∙ right-of (allBelow n f) (f n) p) (λ l. all-at n f (left-of (allBelow n f) (f n) p) k l)
     (last-or-below k n h)
+
+-- an equation between numbers: computed below n, it holds of each
+pub same-below : (n : ℕ) (f g : ℕ → ℕ) → allBelow n (λ k. eqb (f k) (g k)) ≡ true → (k : ℕ) → k < n → f k ≡ g k
+same-below n f g e k h = eqb-true (f k) (g k) (all-at n (λ k. eqb (f k) (g k)) e k h)
 
 pub all-from : (n : ℕ) (f : ℕ → Bool) → ((k : ℕ) → k < n → f k ≡ true) → allBelow n f ≡ true
 unfolding allBelow

@@ -1,16 +1,16 @@
 -- Laws of permissions and of cells as sets of four. What is finite is one test that computes, and a law out of it. Assumes nothing.
-use Prim.Native.Nat.{ℕ, zero, suc, _+_, _≤_, _<_, min}
+use Prim.Native.Nat.{ℕ, zero, suc, _≤_, _<_, min}
 use native.Mathlib.Omega.{arith}
-use mathlib.Core.Path.{_≡_, refl, ap, ap₂, sym, _∙_}
+use mathlib.Core.Path.{_≡_, refl, ap, sym, _∙_}
 use mathlib.Core.Logic.{_⊎_, inl, inr, ⊎-elim}
-use mathlib.Core.Bool.{Bool, true, false, _&&_, _||_, not, cond, Bool·beq}
+use mathlib.Core.Bool.{Bool, true, false, _&&_, _||_, not, cond, Bool·beq, and-true, and-false, and-not-self}
 use lib.Dec.{eqb, leb, ltb, lit≤}
 use borrow.Author.Tests.{eqb-true, leb-true, ltb-true, ltb-false, lt-ltb, le-leb, le-ltb}
 use Rattle.rights.specs.Below.{allBelow}
-use Rattle.rights.specs.Permission.{Permission, TT, TF, FT, FF, code, anyPermission, isCode, decoded, entitles, stronger, serves, need, passing}
-use Rattle.rights.specs.Cell.{has, cellOf, size, carries, union, without, lowered, restrict}
-use Rattle.theory.proofs.Tests.{both, left-of, right-of, or-left, or-right, either, clash, fails}
-use Rattle.theory.proofs.Below.{all-at}
+use Rattle.rights.specs.Permission.{Permission, TT, TF, FT, FF, code, anyPermission, decoded, entitles, stronger, serves, need, passing}
+use Rattle.rights.specs.Cell.{has, cellOf, carries, lowered, restrict}
+use Rattle.theory.proofs.Tests.{both, left-of, right-of, or-left, or-right, either, clash, fails, beq-same}
+use Rattle.theory.proofs.Below.{all-at, same-below}
 
 -- a test that passes at p passes at some permission
 pub any-permission-from : (f : Permission → Bool) (p : Permission) → f p ≡ true → anyPermission f ≡ true
@@ -47,20 +47,14 @@ each-permission f e TF = right-of (f TT) (f TF) (left-of (f TT && f TF) (f FT) (
 each-permission f e FT = right-of (f TT && f TF) (f FT) (left-of (f TT && f TF && f FT) (f FF) e)
 each-permission f e FF = right-of (f TT && f TF && f FT) (f FF) e
 
-beq-same : (a b : Bool) → Bool·beq a b ≡ true → a ≡ b
-beq-same true true e = refl
-beq-same true false e = sym e
-beq-same false true e = e
-beq-same false false e = refl
-
--- an equation between tests of a cell and a permission: computed at the 16 cells, it holds of each
+-- an equation between tests of a cell and a permission: computed at the cells below k, it holds of each
 pub by-cells :
-    (f g : ℕ → Permission → Bool) →
-    allBelow 16 (λ c. eachPermission (λ p. Bool·beq (f c p) (g c p))) ≡ true →
-    (c : ℕ) (p : Permission) → c ≤ 15 → f c p ≡ g c p
-by-cells f g e c p h =
+    (k : ℕ) (f g : ℕ → Permission → Bool) →
+    allBelow k (λ c. eachPermission (λ p. Bool·beq (f c p) (g c p))) ≡ true →
+    (c : ℕ) (p : Permission) → c < k → f c p ≡ g c p
+by-cells k f g e c p h =
     beq-same (f c p) (g c p)
-    (each-permission (λ p. Bool·beq (f c p) (g c p)) (all-at 16 (λ c. eachPermission (λ p. Bool·beq (f c p) (g c p))) e c (omega arith)) p)
+    (each-permission (λ p. Bool·beq (f c p) (g c p)) (all-at k (λ c. eachPermission (λ p. Bool·beq (f c p) (g c p))) e c h) p)
 
 -- an equation between permissions
 by-pairs :
@@ -70,18 +64,6 @@ by-pairs :
 by-pairs f g e q p =
     beq-same (f q p) (g q p)
     (each-permission (λ p. Bool·beq (f q p) (g q p)) (each-permission (λ q. eachPermission (λ p. Bool·beq (f q p) (g q p))) e q) p)
-
--- The level that holding q alone gives: 2 for TT, 1 for TF.
-unfoldable pub levelOf : Permission → ℕ
-levelOf TT = 2
-levelOf TF = 1
-levelOf FT = 0
-levelOf FF = 0
-
--- 'entitles' is a matter of levels: q entitles p where the level that q gives is enough for p
-pub entitles-need : (q p : Permission) → entitles q p ≡ leb (need p) (levelOf q)
-unfolding eachPermission entitles need levelOf
-entitles-need = by-pairs entitles (λ q p. leb (need p) (levelOf q)) refl
 
 pub need-low : (p : Permission) → 1 ≤ need p
 unfolding need
@@ -100,15 +82,11 @@ need-high FF = lit≤ tt
 enough-at-2 : (p : Permission) (v : ℕ) → leb (need p) (suc (suc v)) ≡ true
 enough-at-2 p v = le-leb (need p) (suc (suc v)) (omega (arith, need-high p))
 
-and-true : (a : Bool) → a && true ≡ a
-and-true true = refl
-and-true false = refl
-
 -- a restricted cell carries p exactly where the cell did and the level is enough for p
 pub carries-restrict : (c v : ℕ) (p : Permission) → c ≤ 15 → carries (restrict c v) p ≡ carries c p && leb (need p) v
 unfolding restrict carries anyPermission serves stronger code has cellOf lowered need eachPermission allBelow
-carries-restrict c zero p h = by-cells (λ c p. carries (restrict c 0) p) (λ c p. carries c p && leb (need p) 0) refl c p h
-carries-restrict c (suc zero) p h = by-cells (λ c p. carries (restrict c 1) p) (λ c p. carries c p && leb (need p) 1) refl c p h
+carries-restrict c zero p h = by-cells 16 (λ c p. carries (restrict c 0) p) (λ c p. carries c p && leb (need p) 0) refl c p (omega arith)
+carries-restrict c (suc zero) p h = by-cells 16 (λ c p. carries (restrict c 1) p) (λ c p. carries c p && leb (need p) 1) refl c p (omega arith)
 carries-restrict c (suc (suc v)) p h = sym (rw (enough-at-2 p v) (and-true (carries c p)))
 
 -- a test of permissions by its four values
@@ -157,7 +135,7 @@ cellOf-ext f g e = rw (e TT, e TF, e FT, e FF)
 -- a cell is the cell of its members
 pub cellOf-has : (c : ℕ) → c ≤ 15 → cellOf (has c) ≡ c
 unfolding cellOf has code allBelow
-cellOf-has c h = eqb-true (cellOf (has c)) c (all-at 16 (λ c. eqb (cellOf (has c)) c) refl c (omega arith))
+cellOf-has c h = same-below 16 (λ c. cellOf (has c)) (λ c. c) refl c (omega arith)
 
 -- cells with the same members are equal
 pub cell-ext : (a b : ℕ) → a ≤ 15 → b ≤ 15 → ((p : Permission) → has a p ≡ has b p) → a ≡ b
@@ -205,18 +183,15 @@ restrict-restrict c (suc (suc v)) (suc zero) =
 restrict-restrict c (suc (suc v)) (suc (suc w)) =
     let e : min (suc (suc v)) (suc (suc w)) ≡ suc (suc (min v w)) = omega arith in ap (restrict c) (sym e)
 
-not-both : (a : Bool) → a && not a ≡ a && false
-not-both true = refl
-not-both false = refl
-
 -- a record is gone from a restricted cell exactly where its need is above the level
 pub gone-need : (c v : ℕ) (p : Permission) → c ≤ 15 → has c p && not (has (restrict c v) p) ≡ has c p && ltb v (need p)
 unfolding restrict has cellOf lowered code need eachPermission allBelow
-gone-need c zero p h = by-cells (λ c p. has c p && not (has (restrict c 0) p)) (λ c p. has c p && ltb 0 (need p)) refl c p h
-gone-need c (suc zero) p h = by-cells (λ c p. has c p && not (has (restrict c 1) p)) (λ c p. has c p && ltb 1 (need p)) refl c p h
-gone-need c (suc (suc v)) p h = rw (le-ltb (suc (suc v)) (need p) (omega (arith, need-high p))) (not-both (has c p))
+gone-need c zero p h = by-cells 16 (λ c p. has c p && not (has (restrict c 0) p)) (λ c p. has c p && ltb 0 (need p)) refl c p (omega arith)
+gone-need c (suc zero) p h = by-cells 16 (λ c p. has c p && not (has (restrict c 1) p)) (λ c p. has c p && ltb 1 (need p)) refl c p (omega arith)
+gone-need c (suc (suc v)) p h = rw (le-ltb (suc (suc v)) (need p) (omega (arith, need-high p))) (and-not-self (has c p) ∙ sym (and-false (has c p)))
 
-no-record : (p : Permission) → has 0 p ≡ false
+-- the empty cell has no record
+pub no-record : (p : Permission) → has 0 p ≡ false
 unfolding has code
 no-record TT = refl
 no-record TF = refl
@@ -264,14 +239,6 @@ carried c p e =
 pub carries-from : (c : ℕ) (q p : Permission) → has c q ≡ true → serves q p ≡ true → carries c p ≡ true
 unfolding carries
 carries-from c q p e s = any-permission-from (λ q. has c q && serves q p) q (both e s)
-
--- a record serves itself
-pub serves-self : (p : Permission) → serves p p ≡ true
-unfolding serves code
-serves-self TT = refl
-serves-self TF = refl
-serves-self FT = refl
-serves-self FF = refl
 
 -- a cell with more records carries more
 pub carries-more : (a b : ℕ) (p : Permission) → ((q : Permission) → has a q ≡ true → has b q ≡ true) → carries a p ≡ true → carries b p ≡ true
@@ -337,6 +304,12 @@ passing-cases TF = inr (refl, refl)
 passing-cases FT = inl (refl, refl)
 passing-cases FF = inr (refl, refl)
 
+pub passing-2 : (p : Permission) → need p ≡ 2 → passing p ≡ TT
+passing-2 p e = ⊎-elim (λ c. c .0) (λ c. absurd (let z : 2 ≡ 1 = sym e ∙ c .1 in omega arith)) (passing-cases p)
+
+pub passing-1 : (p : Permission) → need p ≡ 1 → passing p ≡ TF
+passing-1 p e = ⊎-elim (λ c. absurd (let z : 1 ≡ 2 = sym e ∙ c .1 in omega arith)) (λ c. c .0) (passing-cases p)
+
 -- the reading that passes p on is of p's need, entitles p, and is carried wherever a reading that entitles p is
 pub passing-need : (p : Permission) → need (passing p) ≡ need p
 unfolding need passing
@@ -344,13 +317,6 @@ passing-need TT = refl
 passing-need TF = refl
 passing-need FT = refl
 passing-need FF = refl
-
-pub passing-level : (p : Permission) → levelOf (passing p) ≡ need p
-unfolding need passing levelOf
-passing-level TT = refl
-passing-level TF = refl
-passing-level FT = refl
-passing-level FF = refl
 
 pub passing-entitles : (p : Permission) → entitles (passing p) p ≡ true
 unfolding passing entitles

@@ -3,7 +3,7 @@ use Prim.Native.Nat.{ℕ, _≤_, _<_}
 use native.Mathlib.Omega.{arith}
 use mathlib.Core.Path.{_≡_, refl, ap, sym, _∙_}
 use mathlib.Core.Logic.{_↔_, ⊎-elim}
-use mathlib.Core.Bool.{Bool, true, false, _&&_, _||_, not, cond}
+use mathlib.Core.Bool.{Bool, true, false, _&&_, _||_, not, cond, or-assoc, or-false}
 use mathlib.Core.List.{List, [], _∷_, _++_}
 use lib.Dec.{eqb, leb}
 use borrow.Author.Tests.{eqb-true, eqb-false, eq-eqb, ne-eqb, not-true, leb-true, leb-false, le-leb, lt-leb}
@@ -15,7 +15,7 @@ use Rattle.rights.specs.Register.{cell, soaOf}
 use Rattle.rights.specs.Chain.{RootedChain, alone, link, Holds, HoldsWithout, HoldsUnused, names, uses}
 use Rattle.rights.specs.Level.{levels, independentLevels, levelsAmong, levelIn, everyOffice, otherThan, holds, holdsBy}
 use Rattle.rights.specs.Restriction.{restricted, emptyWhere}
-use Rattle.theory.proofs.Tests.{both, left-of, right-of, or-left, or-right, either, decided, clash, neither, not-left, not-right, or-assoc, or-false}
+use Rattle.theory.proofs.Tests.{both, left-of, right-of, or-left, or-right, either, decided, clash, neither, not-left, not-right}
 use Rattle.theory.proofs.Below.{any-from, any-found}
 use Rattle.theory.proofs.Cell.{entitles-trans, entitled-serves, carries-serves, passing-entitles, passing-itself, need-low, need-high, carries-restrict}
 use Rattle.theory.proofs.Register.{cell-register}

@@ -1,15 +1,15 @@
 -- Where a way first comes to an office: what is left of the ways when that office is shut out. Assumes nothing.
-use Prim.Native.Nat.{ℕ, _<_}
-use mathlib.Core.Path.{_≡_, refl, ap, sym, _∙_}
+use Prim.Native.Nat.{ℕ}
+use mathlib.Core.Path.{_≡_}
 use mathlib.Core.Logic.{_⊎_, inl, inr, ⊎-elim}
-use mathlib.Core.Bool.{Bool, true, false, _&&_, not}
+use mathlib.Core.Bool.{Bool, true, false, _&&_}
 use mathlib.Core.List.{List, [], _∷_, _++_}
 use lib.Dec.{eqb}
 use borrow.Author.Tests.{eqb-true, eqb-false, ne-eqb, not-true, not-false}
 use Rattle.rights.specs.declared.Header.{Header}
 use Rattle.rights.specs.Register.{soaOf}
 use Rattle.rights.specs.Level.{otherThan}
-use Rattle.theory.proofs.Tests.{both, decided, clash}
+use Rattle.theory.proofs.Tests.{both, decided}
 use Rattle.theory.proofs.Way.{Way, start, onward, Reach}
 
 -- every office but a is other than a

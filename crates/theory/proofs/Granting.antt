@@ -1,31 +1,26 @@
 -- A grant leaves a sound register sound. Assumes nothing.
-use Prim.Native.Nat.{ℕ, zero, suc, _+_, _*_, _≤_, _<_, min}
+use Prim.Native.Nat.{ℕ, _≤_, _<_}
 use native.Mathlib.Omega.{arith}
-use mathlib.Core.Path.{_≡_, refl, ap, ap₂, sym, _∙_}
-use mathlib.Core.Logic.{_⊎_, inl, inr, ⊎-elim}
-use mathlib.Core.Bool.{Bool, true, false, _&&_, _||_, not, cond}
-use mathlib.Core.List.{List, [], _∷_, _++_}
-use lib.ListN.{length}
-use lib.Dec.{eqb, leb}
-use borrow.Author.Tests.{eqb-true, eqb-false, eq-eqb, ne-eqb, le-leb}
+use mathlib.Core.Path.{_≡_, sym, _∙_}
+use mathlib.Core.Logic.{⊎-elim}
+use mathlib.Core.Bool.{true, false, _&&_, _||_, cond, or-false}
+use mathlib.Core.List.{List}
+use lib.Dec.{eqb}
+use borrow.Author.Tests.{eqb-true}
 use Rattle.rights.specs.declared.Header.{Header}
-use Rattle.rights.specs.Permission.{Permission, code, need, passing}
-use Rattle.rights.specs.Cell.{has, carries, restrict, union}
-use Rattle.rights.specs.Register.{cell, soaOf}
-use Rattle.rights.specs.Level.{everyOffice, otherThan, levels, levelIn, independentLevels}
+use Rattle.rights.specs.Permission.{Permission, code, need}
+use Rattle.rights.specs.Cell.{has, union}
+use Rattle.rights.specs.Register.{cell}
+use Rattle.rights.specs.Level.{everyOffice, levels, levelIn}
 use Rattle.rights.specs.Sound.{barred, sound}
-use Rattle.rights.specs.Restriction.{restricted, emptyWhere, isCell, columnsTo, emptied}
-use Rattle.rights.specs.Deletion.{grantedCell, granted, wld, sld, columnStep, rowSettled}
-use Rattle.theory.proofs.Tests.{both, left-of, right-of, or-left, or-false, either, not-left, not-right, decided, clash}
-use Rattle.theory.proofs.Below.{same-or-not, below-or-not}
-use Rattle.theory.proofs.Cell.{has-cellOf, cellOf-small, one-record, restrict-fixed, fixed-need, carries-more, passing-need, need-high}
+use Rattle.rights.specs.Restriction.{isCell}
+use Rattle.rights.specs.Deletion.{grantedCell, granted}
+use Rattle.theory.proofs.Tests.{left-of, right-of, or-left, either, decided, clash}
+use Rattle.theory.proofs.Cell.{has-cellOf, cellOf-small, one-record, restrict-fixed, fixed-need, carries-more}
 use Rattle.theory.proofs.Register.{cell-register}
-use Rattle.theory.proofs.Way.{Way, start, onward, Reach, linkOf, way-inside, way-among, way-allowed}
-use Rattle.theory.proofs.Level.{enough-way, way-enough}
-use Rattle.theory.proofs.Restriction.{link-restricted, levels-lower}
+use Rattle.theory.proofs.Way.{linkOf}
+use Rattle.theory.proofs.Restriction.{levels-lower}
 use Rattle.theory.proofs.Standing.{Clean, sound-clean, sound-fixed, clean-fixed-sound}
-use Rattle.theory.proofs.Cut.{except, cut, Arrival, shut-out, let-in, not-shut}
-use Rattle.theory.proofs.Local.{Cutting, settled-sound}
 use Rattle.theory.proofs.LocalDeletion.{Pair}
 
 -- Grant: more links, so higher levels, and the new record is within its grantor's.

@@ -46,11 +46,6 @@ same-mark true false e = cc
 same-mark false true e = cc
 same-mark false false e = refl
 
--- more marks, and a larger count
-pub marked-le : (n : ℕ) (f g : ℕ → Bool) → ((y : ℕ) → y < n → f y ≡ true → g y ≡ true) → marked n f ≤ marked n g
-unfolding marked
-marked-le n f g l = sum-le n (λ y. cond (f y) 1 0) (λ y. cond (g y) 1 0) (λ y h. one-or-none (f y) (g y) (l y h))
-
 -- more marks, and no larger count: the same marks
 pub marked-same :
     (n : ℕ) (f g : ℕ → Bool) →

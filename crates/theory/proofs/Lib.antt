@@ -8,6 +8,7 @@ pub mod Way
 pub mod Level
 pub mod Chain
 pub mod Ready
+pub mod Refusals
 pub mod Sound
 pub mod Reading
 pub mod Order

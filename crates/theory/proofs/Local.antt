@@ -1,31 +1,30 @@
 -- The local lemma: after a column step on column j, settling row j costs nobody but j anything, and leaves a sound register.
 -- Assumes nothing.
-use Prim.Native.Nat.{ℕ, zero, suc, _+_, _*_, _≤_, _<_, min}
+use Prim.Native.Nat.{ℕ, _≤_, _<_}
 use native.Mathlib.Omega.{arith}
-use mathlib.Core.Path.{_≡_, refl, ap, ap₂, sym, _∙_}
-use mathlib.Core.Logic.{_⊎_, inl, inr, ⊎-elim}
-use mathlib.Core.Bool.{Bool, true, false, _&&_, _||_, not, cond}
+use mathlib.Core.Path.{_≡_, refl, sym, _∙_}
+use mathlib.Core.Logic.{⊎-elim}
+use mathlib.Core.Bool.{true, false, _&&_, _||_, not}
 use mathlib.Core.List.{List, [], _∷_, _++_}
-use lib.ListN.{length}
 use lib.Dec.{eqb, leb}
 use borrow.Author.Tests.{eqb-true, eq-eqb, ne-eqb, le-leb, not-true}
 use Rattle.rights.specs.declared.Header.{Header}
-use Rattle.rights.specs.Permission.{Permission, code, need, passing, serves}
+use Rattle.rights.specs.Permission.{Permission, code, need, passing}
 use Rattle.rights.specs.Cell.{has, carries, restrict, union, without, cellOf}
-use Rattle.rights.specs.Register.{cell, register, soaOf}
-use Rattle.rights.specs.Level.{everyOffice, otherThan, levels, levelIn}
+use Rattle.rights.specs.Register.{cell, soaOf}
+use Rattle.rights.specs.Level.{everyOffice, levels, levelIn}
 use Rattle.rights.specs.Sound.{barred, sound}
 use Rattle.rights.specs.Restriction.{restricted, rowTo}
 use Rattle.rights.specs.Deletion.{handedCell, handedOver, rowSettled}
 use Rattle.theory.proofs.Tests.{both, left-of, right-of, or-left, or-right, either, decided, clash}
 use Rattle.theory.proofs.Below.{same-or-not, below-or-not}
 use Rattle.theory.proofs.Cell.{has-cellOf, cellOf-small, restrict-empty, restrict-fixed, fixed-need, restricted-need, fixed-restrict, gone-above, above-gone, carries-restrict, carries-more, carries-from, carried, serves-need, passing-need, restrict-small}
-use Rattle.theory.proofs.Register.{cell-register, length-register}
+use Rattle.theory.proofs.Register.{cell-register}
 use Rattle.theory.proofs.Way.{Way, start, onward, Reach, linkOf, way-inside, way-more, way-allowed}
 use Rattle.theory.proofs.Level.{enough-way, way-enough, level-most}
-use Rattle.theory.proofs.Restriction.{Small, restricted-cell, restricted-small, link-restricted, lower-level}
+use Rattle.theory.proofs.Restriction.{Small, restricted-cell, link-restricted, lower-level}
 use Rattle.theory.proofs.Standing.{Clean, Fixed, restricted-clean, clean-fixed-sound}
-use Rattle.theory.proofs.Cut.{except, cut, Arrival, shut-out, let-in, not-shut}
+use Rattle.theory.proofs.Cut.{except, cut, Arrival, let-in, not-shut}
 
 -- A cut at j by i in a sound register R: only column j has been restricted, and where that cost j something, i has its level by
 -- ways that do not come to j.
@@ -63,10 +62,6 @@ module _ (h : Header) (R : List ℕ) (i j : ℕ) (to : ℕ → ℕ → ℕ) (cut
 
   unfoldable pub N : List ℕ
   N = handedOver h R L i j
-
-  smallM : Small h M
-  unfolding M
-  smallM = restricted-small h R to (clean .small)
 
   -- only column j was restricted
   cell-M : (x y : ℕ) → x < h .n → y < h .n → (y ≡ j → ⊥) → cell h M x y ≡ cell h R x y

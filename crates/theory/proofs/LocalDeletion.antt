@@ -1,35 +1,28 @@
 -- WLD and SLD leave a sound register sound: the local lemma at their column steps. Assumes nothing.
-use Prim.Native.Nat.{ℕ, zero, suc, _+_, _*_, _≤_, _<_, min}
+use Prim.Native.Nat.{ℕ, _≤_, _<_}
 use native.Mathlib.Omega.{arith}
-use mathlib.Core.Path.{_≡_, refl, ap, ap₂, sym, _∙_}
-use mathlib.Core.Logic.{_⊎_, inl, inr, ⊎-elim}
-use mathlib.Core.Bool.{Bool, true, false, _&&_, _||_, not, cond}
+use mathlib.Core.Path.{_≡_, refl, ap, sym, _∙_}
+use mathlib.Core.Logic.{⊎-elim}
+use mathlib.Core.Bool.{Bool, true, false, cond, and-false}
 use mathlib.Core.List.{List, [], _∷_, _++_}
-use lib.ListN.{length}
 use lib.Dec.{eqb, leb}
 use borrow.Author.Tests.{eqb-true, eqb-false, eq-eqb, ne-eqb, le-leb}
 use Rattle.rights.specs.declared.Header.{Header}
-use Rattle.rights.specs.Permission.{Permission, code, need, passing}
-use Rattle.rights.specs.Cell.{has, carries, restrict, union}
-use Rattle.rights.specs.Register.{cell, soaOf}
+use Rattle.rights.specs.Permission.{Permission, need, passing}
+use Rattle.rights.specs.Register.{soaOf}
 use Rattle.rights.specs.Level.{everyOffice, otherThan, levels, levelIn, independentLevels}
 use Rattle.rights.specs.Sound.{barred, sound}
 use Rattle.rights.specs.Restriction.{restricted, emptyWhere, isCell, columnsTo, emptied}
-use Rattle.rights.specs.Deletion.{granted, wld, sld, columnStep, rowSettled}
-use Rattle.theory.proofs.Tests.{both, left-of, right-of, or-left, or-false, either, not-left, not-right, decided, clash}
-use Rattle.theory.proofs.Below.{same-or-not, below-or-not}
-use Rattle.theory.proofs.Cell.{has-cellOf, cellOf-small, one-record, restrict-fixed, fixed-need, carries-more, passing-need, need-high}
-use Rattle.theory.proofs.Register.{cell-register}
+use Rattle.rights.specs.Deletion.{wld, sld, columnStep}
+use Rattle.theory.proofs.Tests.{both, left-of, right-of, not-left, not-right, decided}
+use Rattle.theory.proofs.Below.{below-or-not}
+use Rattle.theory.proofs.Cell.{passing-need, need-high}
 use Rattle.theory.proofs.Way.{Way, start, onward, Reach, linkOf, way-inside, way-among, way-allowed}
 use Rattle.theory.proofs.Level.{enough-way, way-enough}
-use Rattle.theory.proofs.Restriction.{link-restricted, levels-lower}
-use Rattle.theory.proofs.Standing.{Clean, sound-clean, sound-fixed, clean-fixed-sound}
+use Rattle.theory.proofs.Restriction.{link-restricted}
+use Rattle.theory.proofs.Standing.{sound-clean, sound-fixed}
 use Rattle.theory.proofs.Cut.{except, cut, Arrival, shut-out, let-in, not-shut}
 use Rattle.theory.proofs.Local.{Cutting, settled-sound}
-
-and-false : (a : Bool) → a && false ≡ false
-and-false true = refl
-and-false false = refl
 
 -- offices in range between which a grant may stand, in a sound register
 pub record Pair (h : Header) (R : List ℕ) (i j : ℕ) : Type 0 where

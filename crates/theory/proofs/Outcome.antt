@@ -1,44 +1,33 @@
 -- Law 4: every command leaves a register as 01 has it; what an accepted one has passed, and what a refused one leaves.
 -- Assumes nothing.
-use Prim.Native.Nat.{ℕ, zero, suc, _*_, _≤_, _<_}
-use native.Mathlib.Omega.{arith}
-use mathlib.Core.Path.{_≡_, refl, ap, sym, _∙_}
-use mathlib.Core.Logic.{_⊎_, inl, inr, ⊎-elim}
-use mathlib.Core.Bool.{Bool, true, false, _&&_, not, cond}
+use Prim.Native.Nat.{ℕ, _*_, _≤_, _<_}
+use mathlib.Core.Path.{_≡_, sym, _∙_}
+use mathlib.Core.Logic.{⊎-elim}
+use mathlib.Core.Bool.{Bool, true, false, not, cond}
 use mathlib.Core.List.{List}
 use lib.ListN.{length}
-use lib.Dec.{eqb, leb, ltb, eqb·suc-zero}
-use borrow.Author.Tests.{eqb-true, eq-eqb, ltb-true, leb-true, not-true}
+use lib.Dec.{eqb}
+use borrow.Author.Tests.{eqb-true, eq-eqb, leb-true}
 use Rattle.rights.specs.declared.Header.{Header}
 use Rattle.rights.specs.declared.Command.{Command}
-use Rattle.rights.specs.Permission.{Permission, decoded, need}
+use Rattle.rights.specs.Permission.{decoded, need}
 use Rattle.rights.specs.Cell.{has}
 use Rattle.rights.specs.Register.{cell, soaOf}
 use Rattle.rights.specs.Level.{levels, levelIn}
-use Rattle.rights.specs.Sound.{headed, whole, sound, barred, firstOf, unless, registerRefusal}
+use Rattle.rights.specs.Sound.{headed, whole, sound, unless}
 use Rattle.rights.specs.Restriction.{restricted, emptyWhere, isCell, rowTo, emptied}
 use Rattle.rights.specs.Deletion.{grantedCell, granted, handedCell, handedOver, rowSettled, columnStep, wld, wgd, sld, sgd}
-use Rattle.rights.specs.Command.{byOf, toOf, isGrant, wellFormed, mayGrant, grantRefusal, deletionRefusal, formRefusal, refusal, carriedOut, refused, done, outcome}
-use Rattle.theory.proofs.Tests.{left-of, right-of, decided}
+use Rattle.rights.specs.Command.{byOf, toOf, isGrant, mayGrant, grantRefusal, refusal, carriedOut, refused, done, outcome}
+use Rattle.theory.proofs.Tests.{decided}
 use Rattle.theory.proofs.Register.{length-register}
 use Rattle.theory.proofs.Ready.{Ready, headed-inside}
+use Rattle.theory.proofs.Refusals.{none-of, holds-unless, Passed, command-passed}
 use Rattle.theory.proofs.Sound.{may-grant}
 use Rattle.theory.proofs.Sweep.{length-sweep}
 use Rattle.theory.proofs.Standing.{Clean, sound-clean, swept-sound, restricted-clean}
 use Rattle.theory.proofs.LocalDeletion.{Pair, wld-sound, sld-sound}
 use Rattle.theory.proofs.Granting.{grant-sound}
 use Rattle.theory.proofs.Rest.{sgd-sound, length-sgd}
-
--- no refusal of a list applies where none of its parts does
-pub none-of : (a b : ℕ) → firstOf a b ≡ 0 → (a ≡ 0) × (b ≡ 0)
-unfolding firstOf
-none-of zero b e = (refl, e)
-none-of (suc a) b e = let z : suc a ≡ 0 = rw (eqb·suc-zero a) at e in absurd (omega arith)
-
-pub holds-unless : (t : Bool) (k : ℕ) → unless t (suc k) ≡ 0 → t ≡ true
-unfolding unless
-holds-unless true k e = refl
-holds-unless false k e = let z : suc k ≡ 0 = e in absurd (omega arith)
 
 -- a refused command leaves the register, and an accepted one is carried out
 pub outcome-refused : (h : Header) (R : List ℕ) (c : Command) → eqb (refusal h R c) 0 ≡ false → outcome h R c .cells ≡ R
@@ -68,29 +57,18 @@ unfolding rowSettled handedOver
 length-settled h R M i j = length-register h (handedCell h R (restricted h M (rowTo j (levelIn (levels h M) j))) i j)
 
 module _ (h : Header) (R : List ℕ) (ready : Ready h R) (c : Command) (none : refusal h R c ≡ 0) where
-  form : formRefusal h c ≡ 0
-  unfolding refusal
-  form = none-of (formRefusal h c) (cond (isGrant c) (grantRefusal h R c) (deletionRefusal h R c)) (none-of (registerRefusal h R) (firstOf (formRefusal h c) (cond (isGrant c) (grantRefusal h R c) (deletionRefusal h R c))) none .1) .0
-
-  own : cond (isGrant c) (grantRefusal h R c) (deletionRefusal h R c) ≡ 0
-  unfolding refusal
-  own = none-of (formRefusal h c) (cond (isGrant c) (grantRefusal h R c) (deletionRefusal h R c)) (none-of (registerRefusal h R) (firstOf (formRefusal h c) (cond (isGrant c) (grantRefusal h R c) (deletionRefusal h R c))) none .1) .1
+  passed : Passed h R c
+  passed = command-passed h R c none
 
   -- an accepted command names offices in range between which a grant may stand
   pair : Pair h R (byOf c) (toOf c)
-  unfolding formRefusal
   pair =
-      let inRange = ltb (byOf c) (h .n) && ltb (toOf c) (h .n) in
-      let free = not (barred h (byOf c) (toOf c)) in
-      let first = unless (eqb (c .layer .0) (h .layer .0)) 5 in
-      let later = none-of (unless inRange 6) (unless free 7) (none-of first (firstOf (unless inRange 6) (unless free 7)) (none-of (unless (wellFormed c) 4) (firstOf first (firstOf (unless inRange 6) (unless free 7))) form .1) .1) in
-      let ranged = holds-unless inRange 5 (later .0) in
       record {
         inside = headed-inside h (ready .headed);
         sound = ready .sound;
-        by = ltb-true (byOf c) (h .n) (left-of (ltb (byOf c) (h .n)) (ltb (toOf c) (h .n)) ranged);
-        to = ltb-true (toOf c) (h .n) (right-of (ltb (byOf c) (h .n)) (ltb (toOf c) (h .n)) ranged);
-        free = not-true (barred h (byOf c) (toOf c)) (holds-unless free 6 (later .1));
+        by = passed .form .by;
+        to = passed .form .to;
+        free = passed .form .free;
       }
 
   -- an accepted grant is within its grantor's level
@@ -98,7 +76,7 @@ module _ (h : Header) (R : List ℕ) (ready : Ready h R) (c : Command) (none : r
   unfolding grantRefusal
   may g =
       let p = decoded (c .perm) in
-      let granting : grantRefusal h R c ≡ 0 = rw g at own in
+      let granting : grantRefusal h R c ≡ 0 = rw g at (passed .own) in
       let first = none-of (unless (mayGrant h R (byOf c) p) 8) (unless (not (has (cell h R (byOf c) (toOf c)) p)) 9) granting .0 in
       leb-true (need p) (levelIn (levels h R) (byOf c))
       (sym (may-grant h R (headed-inside h (ready .headed)) (byOf c) p (pair .by)) ∙ holds-unless (mayGrant h R (byOf c) p) 7 first)

@@ -22,7 +22,7 @@ use Rattle.theory.proofs.Below.{any-from, first-at, first-below, first-
 use Rattle.theory.proofs.Chain.{holds-chain}
 use Rattle.theory.proofs.Order.{order-antisymmetric}
 use Rattle.theory.proofs.Walk.{Walk, walk-length, walk-chain, chain-walk, walk-offices}
-use Rattle.theory.proofs.Smallest.{counted, smallest-length, smallest-first, walk-counts, counts-walk, counts-least}
+use Rattle.theory.proofs.Smallest.{counted, smallest-length, walk-counts, counts-walk, counts-least}
 use Rattle.theory.proofs.Shortest.{NoShorter, shortest-few}
 
 -- no other chain is picked
@@ -42,10 +42,6 @@ picked-unique {offices} {others} a b =
 pub picked-length : (h : Header) (R : List ℕ) (p : Permission) (j : ℕ) → length (pickedChain h R p j) ≡ suc (fewestLinks h R p j)
 unfolding pickedChain
 picked-length h R p j = smallest-length h R (fewestLinks h R p j) p (single h j)
-
-pub picked-first : (h : Header) (R : List ℕ) (p : Permission) (j : ℕ) → getD (pickedChain h R p j) 0 0 ≡ soaOf h
-unfolding pickedChain
-picked-first h R p j = smallest-first h R (fewestLinks h R p j) p (single h j)
 
 module _ (h : Header) (R : List ℕ) (inside : soaOf h < h .n) where
   -- the first number of links that counts is the fewest

@@ -1,10 +1,10 @@
 -- Registers as 01 has them, and what their three tests say. Assumes nothing.
 use Prim.Native.Nat.{ℕ, _*_, _≤_, _<_}
-use mathlib.Core.Path.{_≡_, refl}
-use mathlib.Core.Bool.{Bool, true, false, _&&_}
+use mathlib.Core.Path.{_≡_}
+use mathlib.Core.Bool.{true}
 use mathlib.Core.List.{List}
 use lib.ListN.{length}
-use lib.Dec.{eqb, leb, ltb}
+use lib.Dec.{leb, ltb}
 use borrow.Author.Tests.{eqb-true, leb-true, ltb-true}
 use Rattle.rights.specs.declared.Header.{Header}
 use Rattle.rights.specs.Register.{soaOf}
@@ -25,10 +25,6 @@ module _ (h : Header) where
   pub headed-high : headed h ≡ true → h .n ≤ 128
   unfolding headed
   headed-high e = leb-true (h .n) 128 (parts-of (leb 2 (h .n)) (leb (h .n) 128) (ltb (soaOf h) (h .n)) e .1)
-
-  pub headed-low : headed h ≡ true → 2 ≤ h .n
-  unfolding headed
-  headed-low e = leb-true 2 (h .n) (parts-of (leb 2 (h .n)) (leb (h .n) 128) (ltb (soaOf h) (h .n)) e .0)
 
   pub whole-length : (R : List ℕ) → whole h R ≡ true → length R ≡ h .n * h .n
   unfolding whole

@@ -1,14 +1,13 @@
 -- Two laws carry all reasoning about cells: what a built register has at i, j, and that registers of equal cells are equal.
 -- Assumes nothing.
-use Prim.Native.Nat.{ℕ, zero, suc, _+_, _*_, _/_, _%_, _≤_, _<_}
+use Prim.Native.Nat.{ℕ, zero, suc, _+_, _*_, _/_, _%_, _<_}
 use native.Mathlib.Nat.{not-suc-le-zero, div-add-mod', div-lt-iff-lt-mul, mod-lt}
 use native.Mathlib.Omega.{arith}
-use mathlib.Core.Path.{_≡_, refl, ap, ap₂, sym, _∙_}
+use mathlib.Core.Path.{_≡_, ap, ap₂, sym, _∙_}
 use mathlib.Core.List.{List}
 use lib.ListN.{length, getD}
 use lib.Arith.{digits-lt, digits-div, digits-mod}
 use Rattle.rights.specs.declared.Header.{Header}
-use Rattle.rights.specs.Below.{table}
 use Rattle.rights.specs.Register.{cell, register}
 use Rattle.theory.proofs.Below.{length-table, table-at, table-ext, table-of}
 

@@ -2,26 +2,26 @@
 use Prim.Native.Nat.{ℕ, zero, suc, _+_, _*_, _≤_, _<_, min}
 use native.Mathlib.Nat.{add-zero, add-suc, suc-add}
 use native.Mathlib.Omega.{arith}
-use mathlib.Core.Path.{_≡_, refl, ap, ap₂, sym, _∙_}
+use mathlib.Core.Path.{_≡_, refl, ap, sym, _∙_}
 use mathlib.Core.Logic.{_⊎_, inl, inr, ⊎-elim}
-use mathlib.Core.Bool.{Bool, true, false, _&&_, _||_, not, cond}
-use mathlib.Core.List.{List, [], _∷_}
+use mathlib.Core.Bool.{Bool, true, false, _||_, cond}
+use mathlib.Core.List.{List}
 use lib.ListN.{length}
-use lib.Dec.{eqb, leb}
-use borrow.Author.Tests.{eqb-true, eq-eqb}
+use lib.Dec.{eqb}
+use borrow.Author.Tests.{eqb-true}
 use Rattle.rights.specs.declared.Header.{Header}
 use Rattle.rights.specs.Below.{allBelow}
 use Rattle.rights.specs.Register.{cell, soaOf}
-use Rattle.rights.specs.Level.{isIn, levels, levelIn, independentLevels, levelsAmong, otherThan}
+use Rattle.rights.specs.Level.{isIn, levelIn, independentLevels, otherThan}
 use Rattle.rights.specs.Sound.{sound}
-use Rattle.rights.specs.Restriction.{restricted, columnsTo, rowsTo, sweep}
+use Rattle.rights.specs.Restriction.{restricted, columnsTo, sweep}
 use Rattle.rights.specs.Deletion.{columnStep, losers, strongRound, same, untilRest, sgd}
-use Rattle.theory.proofs.Tests.{or-left, or-right, decided}
-use Rattle.theory.proofs.Below.{all-at, all-from}
-use Rattle.theory.proofs.Growth.{marked, marked-most, settled}
+use Rattle.theory.proofs.Tests.{or-left, decided}
+use Rattle.theory.proofs.Below.{all-at}
+use Rattle.theory.proofs.Growth.{marked-most, settled}
 use Rattle.theory.proofs.Level.{level-most}
 use Rattle.theory.proofs.Register.{same-cells}
-use Rattle.theory.proofs.Restriction.{Small, restricted-small, restricted-ext, restricted-twice, length-restricted}
+use Rattle.theory.proofs.Restriction.{restricted-small, restricted-ext, restricted-twice}
 use Rattle.theory.proofs.Sweep.{absorb, length-sweep}
 use Rattle.theory.proofs.Standing.{Clean, restricted-clean, swept-sound}
 

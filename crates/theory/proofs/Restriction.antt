@@ -1,28 +1,26 @@
 -- Restricting many cells: to v then w is to the smaller; what a restricted register carries; which levels stay.
 -- Assumes nothing.
-use Prim.Native.Nat.{ℕ, zero, suc, _+_, _*_, _≤_, _<_, min}
+use Prim.Native.Nat.{ℕ, zero, suc, _*_, _≤_, _<_, min}
 use native.Mathlib.Nat.{le-antisymm}
 use native.Mathlib.Omega.{arith}
-use mathlib.Core.Path.{_≡_, refl, ap, ap₂, sym, _∙_}
-use mathlib.Core.Logic.{_⊎_, inl, inr, ⊎-elim}
-use mathlib.Core.Bool.{Bool, true, false, _&&_, _||_, cond}
-use mathlib.Core.List.{List, [], _∷_, _++_}
-use lib.ListN.{length, getD, List·getD-eq-default}
+use mathlib.Core.Path.{_≡_, refl, ap, sym, _∙_}
+use mathlib.Core.Bool.{Bool, true, false, _&&_, _||_}
+use mathlib.Core.List.{List}
+use lib.ListN.{length}
 use lib.Seq.{ext-getD}
 use lib.Dec.{leb, eqb, lit≤}
 use borrow.Author.Tests.{le-leb, leb-true}
 use Rattle.rights.specs.declared.Header.{Header}
-use Rattle.rights.specs.Below.{table}
 use Rattle.rights.specs.Permission.{Permission, TT, TF, need, passing}
 use Rattle.rights.specs.Cell.{carries, restrict}
-use Rattle.rights.specs.Register.{cell, register, soaOf}
-use Rattle.rights.specs.Level.{levelsAmong, levelIn, levels, everyOffice, isIn, reached, holds, holdsBy}
-use Rattle.rights.specs.Restriction.{restricted, rowsTo, sweep}
-use Rattle.theory.proofs.Tests.{both, left-of, right-of}
+use Rattle.rights.specs.Register.{cell, soaOf}
+use Rattle.rights.specs.Level.{levelsAmong, levelIn, levels, everyOffice, holds, holdsBy}
+use Rattle.rights.specs.Restriction.{restricted}
+use Rattle.theory.proofs.Tests.{both, left-of}
 use Rattle.theory.proofs.Below.{any-ext}
 use Rattle.theory.proofs.Cell.{carries-restrict, restrict-small, restrict-restrict, passing-need}
 use Rattle.theory.proofs.Register.{cell-register, register-ext, length-register}
-use Rattle.theory.proofs.Way.{Way, start, onward, Reach, linkOf, way-inside, way-more}
+use Rattle.theory.proofs.Way.{Way, start, onward, linkOf, way-inside, way-more}
 use Rattle.theory.proofs.Level.{enough-way, way-enough, level-most, length-levels}
 
 -- each cell is a set of four permissions

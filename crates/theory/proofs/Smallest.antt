@@ -5,7 +5,7 @@ use native.Mathlib.Omega.{arith}
 use mathlib.Core.Path.{_≡_, refl, ap, sym, _∙_}
 use mathlib.Core.Bool.{Bool, true, _&&_}
 use mathlib.Core.List.{List, [], _∷_}
-use lib.ListN.{length, getD, length-append, List·getD-append}
+use lib.ListN.{length, length-append}
 use lib.Dec.{eqb}
 use borrow.Author.Tests.{eqb-true, eq-eqb}
 use Rattle.rights.specs.declared.Header.{Header}
@@ -42,15 +42,6 @@ module _ (h : Header) (R : List ℕ) where
   unfolding smallest
   smallest-length zero p set = refl
   smallest-length (suc d) p set = simp length-append (let n = smallest-length d (passing p) (nearer h R p set) in omega arith)
-
-  -- the first is SOA
-  pub smallest-first : (d : ℕ) (p : Permission) (set : List Bool) → getD (smallest h R p d set) 0 0 ≡ soaOf h
-  unfolding smallest
-  smallest-first zero p set = refl
-  smallest-first (suc d) p set =
-      let earlier = smallest h R (passing p) d (nearer h R p set) in
-      List·getD-append earlier _ 0 0 (let n = smallest-length d (passing p) (nearer h R p set) in omega arith)
-      ∙ smallest-first d (passing p) (nearer h R p set)
 
   -- the last is the smallest office of the set to which the one before has a link
   pub smallest-last :
@@ -114,10 +105,6 @@ module _ (h : Header) (R : List ℕ) (inside : soaOf h < h .n) where
         walk = rw last-append (further y p (earlier .walk) (first-below (h .n) step found) (right-of (isIn set y) _ passes));
         into = rw last-append (left-of (isIn set y) _ passes);
       }
-
-  -- its last office is below n
-  pub smallest-inside : (d : ℕ) (p : Permission) (set : List Bool) → isIn (linksAway h R p d set) (soaOf h) ≡ true → lastOf (smallest h R p d set) < h .n
-  smallest-inside d p set e = walk-inside inside (smallest-walk d p set e .walk)
 
   -- no walk of so many links into the set is smaller
   pub smallest-least :

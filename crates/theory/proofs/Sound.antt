@@ -9,7 +9,7 @@ use borrow.Author.Tests.{eqb-true, eq-eqb, leb-true, le-leb}
 use Rattle.rights.specs.declared.Header.{Header}
 use Rattle.rights.specs.Below.{allBelow}
 use Rattle.rights.specs.Permission.{Permission, need, passing, entitles}
-use Rattle.rights.specs.Cell.{has, restrict}
+use Rattle.rights.specs.Cell.{restrict}
 use Rattle.rights.specs.Register.{cell, soaOf}
 use Rattle.rights.specs.Level.{levels, levelIn, holds}
 use Rattle.rights.specs.Sound.{Entitled, Sound, barred, soundCell, soundBy, sound}

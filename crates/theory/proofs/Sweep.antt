@@ -1,15 +1,13 @@
 -- One sweep is final and changes nobody's holdings; a sweep absorbs an earlier one. Assumes nothing.
-use Prim.Native.Nat.{ℕ, zero, suc, _+_, _*_, _≤_, _<_, min}
+use Prim.Native.Nat.{ℕ, _*_, _≤_, _<_, min}
 use native.Mathlib.Nat.{le-refl}
 use native.Mathlib.Omega.{arith}
-use mathlib.Core.Path.{_≡_, refl, ap, ap₂, sym, _∙_}
-use mathlib.Core.Bool.{Bool, true, false}
+use mathlib.Core.Path.{_≡_, ap, sym, _∙_}
 use mathlib.Core.List.{List}
 use lib.ListN.{length}
 use Rattle.rights.specs.declared.Header.{Header}
 use Rattle.rights.specs.Permission.{Permission}
-use Rattle.rights.specs.Cell.{restrict}
-use Rattle.rights.specs.Register.{cell, soaOf}
+use Rattle.rights.specs.Register.{soaOf}
 use Rattle.rights.specs.Level.{levelIn, levels, everyOffice, holds}
 use Rattle.rights.specs.Restriction.{restricted, rowsTo, sweep}
 use Rattle.theory.proofs.Restriction.{Small, length-restricted, restricted-small, restricted-ext, restricted-twice, levels-kept, levels-restricted-lower, holds-kept}
@@ -28,10 +26,6 @@ module _ (h : Header) (inside : soaOf h < h .n) (R : List ℕ) (small : Small h 
   pub holds-sweep : (p : Permission) (y : ℕ) → y < h .n → holds h (sweep h R) p y ≡ holds h R p y
   unfolding sweep rowsTo
   holds-sweep = holds-kept h inside R (rowsTo (levels h R)) small (λ x y hx hy. le-refl (levelIn (levels h R) x))
-
-  pub small-sweep : Small h (sweep h R)
-  unfolding sweep
-  small-sweep = restricted-small h R (rowsTo (levels h R)) small
 
   -- two restrictions may be made in either order
   pub restricted-swap : (to on : ℕ → ℕ → ℕ) → restricted h (restricted h R to) on ≡ restricted h (restricted h R on) to

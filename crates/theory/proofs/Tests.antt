@@ -1,7 +1,7 @@
 -- Laws of tests: what a conjunction, a disjunction and a choice say of their parts. Assumes nothing.
-use mathlib.Core.Path.{_≡_, refl}
+use mathlib.Core.Path.{_≡_, refl, sym}
 use mathlib.Core.Logic.{_⊎_, inl, inr}
-use mathlib.Core.Bool.{Bool, true, false, _&&_, _||_, not, cond}
+use mathlib.Core.Bool.{Bool, true, false, _&&_, _||_, not, Bool·beq}
 
 pub both : {a b : Bool} → a ≡ true → b ≡ true → a && b ≡ true
 both p q = rw (p, q)
@@ -41,14 +41,6 @@ pub not-right : (a b : Bool) → a || b ≡ false → b ≡ false
 not-right true b p = cc
 not-right false b p = p
 
-pub or-assoc : (a b c : Bool) → a || b || c ≡ a || (b || c)
-or-assoc true b c = refl
-or-assoc false b c = refl
-
-pub or-false : (a : Bool) → a || false ≡ a
-or-false true = refl
-or-false false = refl
-
 -- a test that says: where a passes, b does
 pub implied : (a b : Bool) → not a || b ≡ true → a ≡ true → b ≡ true
 implied true b p q = p
@@ -77,3 +69,10 @@ same-test false false f g = refl
 pub fails : (a : Bool) → (a ≡ true → ⊥) → a ≡ false
 fails true f = absurd (f refl)
 fails false f = refl
+
+-- tests that compare as equal are equal
+pub beq-same : (a b : Bool) → Bool·beq a b ≡ true → a ≡ b
+beq-same true true e = refl
+beq-same true false e = sym e
+beq-same false true e = e
+beq-same false false e = refl

@@ -1,28 +1,28 @@
 -- Demand 3: where a run of WGDs ends depends only on the set of pairs that it names. Assumes nothing.
-use Prim.Native.Nat.{ℕ, zero, suc, _+_, _*_, _≤_, _<_, min}
+use Prim.Native.Nat.{ℕ, _*_, _<_, min}
 use native.Mathlib.Omega.{arith}
 use mathlib.Core.Path.{_≡_, refl, ap, ap₂, sym, _∙_}
-use mathlib.Core.Logic.{_⊎_, inl, inr, ⊎-elim, _↔_}
-use mathlib.Core.Bool.{Bool, true, false, _&&_, _||_, not, cond}
+use mathlib.Core.Logic.{_↔_}
+use mathlib.Core.Bool.{Bool, true, false, _||_, not, cond}
 use mathlib.Core.List.{List, [], _∷_, List·Permᴰ, List·Permᴰ·nil, List·Permᴰ·cons, List·Permᴰ·swap, List·Permᴰ·trans}
 use lib.ListN.{length}
-use lib.Dec.{eqb, leb, ltb}
-use borrow.Author.Tests.{eqb-true, eqb-false, eq-eqb, lt-ltb}
+use lib.Dec.{eqb}
+use borrow.Author.Tests.{eqb-true, eq-eqb, lt-ltb}
 use Rattle.rights.specs.declared.Header.{Header}
 use Rattle.rights.specs.declared.Command.{Command}
 use Rattle.rights.specs.Permission.{Permission}
 use Rattle.rights.specs.Cell.{restrict}
-use Rattle.rights.specs.Register.{cell, soaOf}
+use Rattle.rights.specs.Register.{cell}
 use Rattle.rights.specs.Chain.{Holds, HoldsUnused}
-use Rattle.rights.specs.Level.{levels, holds}
-use Rattle.rights.specs.Sound.{headed, whole, sound, barred, firstOf, unless, registerRefusal}
-use Rattle.rights.specs.Restriction.{restricted, emptyWhere, isCell, rowsTo, sweep, emptied}
+use Rattle.rights.specs.Level.{holds}
+use Rattle.rights.specs.Sound.{headed, whole, sound, barred, firstOf, unless}
+use Rattle.rights.specs.Restriction.{restricted, emptyWhere, isCell, sweep, emptied}
 use Rattle.rights.specs.Deletion.{wgd}
-use Rattle.rights.specs.Command.{byOf, toOf, isGrant, wellFormed, formRefusal, deletionRefusal, refusal, carriedOut, outcome, refused, done}
+use Rattle.rights.specs.Command.{byOf, toOf, isGrant, wellFormed, formRefusal, deletionRefusal, refusal, carriedOut, outcome}
 use Rattle.rights.specs.Run.{ran, WeakGlobal, WeakGlobals, none, more, namesPair}
 use Rattle.theory.proofs.Tests.{left-of, right-of, clash}
 use Rattle.theory.proofs.Register.{same-cells}
-use Rattle.theory.proofs.Restriction.{Small, restricted-cell, restricted-small, restricted-ext, restricted-twice, length-restricted}
+use Rattle.theory.proofs.Restriction.{restricted-cell, restricted-small, restricted-ext, restricted-twice, length-restricted}
 use Rattle.theory.proofs.Chain.{holds-chain, holds-unused}
 use Rattle.theory.proofs.Sweep.{absorb, holds-sweep}
 use Rattle.theory.proofs.Ready.{Ready, headed-inside, whole-length, ready-register}

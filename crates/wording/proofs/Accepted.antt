@@ -1,39 +1,29 @@
 -- The checks of the register reader behind 13: what it means that none of them refuses, and that none refuses a sound register.
-use Prim.Native.Nat.{ℕ, suc, _*_, _≤_, _<_}
+use Prim.Native.Nat.{ℕ, _*_, _≤_, _<_}
 use mathlib.Core.Path.{_≡_, refl, sym, ap, _∙_}
-use mathlib.Core.Bool.{Bool, true, false, _&&_, _||_, not, or-true}
+use mathlib.Core.Bool.{true, false, not, or-true}
 use mathlib.Core.List.{List, _∷_}
 use native.Mathlib.Omega.{arith}
-use lib.Dec.{eqb, ltb, leb, eqb·suc-zero}
+use lib.Dec.{ltb, leb}
 use lib.ListN.{length}
 use borrow.Author.Tests.{ltb-true, leb-true, eqb-true, lt-ltb, le-leb, not-true, not-false}
 use Rattle.rights.specs.declared.Header.{Header}
-use Rattle.rights.specs.Below.{allBelow}
 use Rattle.rights.specs.Permission.{Permission, code, decoded}
 use Rattle.rights.specs.Cell.{has}
-use Rattle.rights.specs.Register.{cell, soaOf}
-use Rattle.rights.specs.Level.{levels}
-use Rattle.rights.specs.Sound.{headed, whole, sound, soundBy, soundCell, barred, firstOf, unless}
+use Rattle.rights.specs.Register.{cell}
+use Rattle.rights.specs.Sound.{headed, whole, sound, barred, firstOf, unless}
 use Rattle.wording.specs.Records.{Record}
 use Rattle.wording.specs.RegisterReader.{Content, anyRecord, outside, forbidden, filled, contentRefusal}
-use Rattle.theory.proofs.Tests.{left-of, right-of}
+use Rattle.theory.proofs.Tests.{left-of, right-of, not-left, not-right, fails}
 use Rattle.wording.proofs.Truth.{never}
-use Rattle.theory.proofs.Below.{all-at}
-use Rattle.wording.proofs.Cell.{has-zero, code-decoded}
+use Rattle.theory.proofs.Cell.{no-record}
+use Rattle.theory.proofs.Refusals.{passed, holds-unless}
+use Rattle.theory.proofs.Ready.{headed-high}
+use Rattle.theory.proofs.Sound.{sound-cells}
+use Rattle.wording.proofs.Cell.{code-decoded}
 use Rattle.wording.proofs.Order.{Ascending, none, more, stands, stands-first}
 use Rattle.wording.proofs.CellRecords.{allRecords, all-ascending, stands-all}
 use Rattle.wording.proofs.Filled.{filled-all}
-
--- a refusal that is not given, as the last one and before others
-passed : (t : Bool) (k : ℕ) → unless t (suc k) ≡ 0 → t ≡ true
-unfolding unless
-passed true k e = refl
-passed false k e = let z : suc k ≡ 0 = e in absurd (omega arith)
-
-off : (t : Bool) (k x : ℕ) → firstOf (unless t (suc k)) x ≡ 0 → (t ≡ true) × (x ≡ 0)
-unfolding firstOf unless
-off true k x e = (refl, e)
-off false k x e = let z : suc k ≡ 0 = rw (eqb·suc-zero k) at e in absurd (omega arith)
 
 -- no check behind 13 refuses the content
 pub record Accepted (t : Content) (size : ℕ) : Type 0 where
@@ -46,16 +36,16 @@ pub record Accepted (t : Content) (size : ℕ) : Type 0 where
 pub accepted : (t : Content) (size : ℕ) → contentRefusal t size ≡ 0 → Accepted t size
 unfolding contentRefusal
 accepted t size e =
-    let one = off (headed (t .header)) 0 _ e in
-    let two = off (leb (t .header .n * t .header .n) size) 1 _ (one .1) in
-    let six = off (not (anyRecord (outside (t .header)) (t .records))) 5 _ (two .1) in
-    let seven = off (not (anyRecord (forbidden (t .header)) (t .records))) 6 _ (six .1) in
+    let one = passed (headed (t .header)) 0 _ e in
+    let two = passed (leb (t .header .n * t .header .n) size) 1 _ (one .1) in
+    let six = passed (not (anyRecord (outside (t .header)) (t .records))) 5 _ (two .1) in
+    let seven = passed (not (anyRecord (forbidden (t .header)) (t .records))) 6 _ (six .1) in
     record {
       headed-ok = one .0;
       room-ok = leb-true (t .header .n * t .header .n) size (two .0);
       inside-ok = not-true _ (six .0);
       allowed-ok = not-true _ (seven .0);
-      sound-ok = passed (sound (t .header) (filled (t .header) (t .records))) 2 (seven .1);
+      sound-ok = holds-unless (sound (t .header) (filled (t .header) (t .records))) 2 (seven .1);
     }
 
 pub not-refused : (t : Content) (size : ℕ) → Accepted t size → contentRefusal t size ≡ 0
@@ -63,35 +53,19 @@ unfolding contentRefusal firstOf unless
 not-refused t size a =
     rw (a .headed-ok, le-leb (t .header .n * t .header .n) size (a .room-ok), a .inside-ok, a .allowed-ok, a .sound-ok)
 
-pub headed-small : (h : Header) → headed h ≡ true → h .n ≤ 128
-unfolding headed
-headed-small h e = leb-true (h .n) 128 (right-of (leb 2 (h .n)) _ (left-of _ _ e))
-
-pub headed-soa : (h : Header) → headed h ≡ true → soaOf h < h .n
-unfolding headed
-headed-soa h e = ltb-true (soaOf h) (h .n) (right-of (leb 2 (h .n) && leb (h .n) 128) _ e)
-
-or-left : (a b : Bool) → (a || b) ≡ false → a ≡ false
-or-left true b e = e
-or-left false b e = refl
-
-or-right : (a b : Bool) → (a || b) ≡ false → b ≡ false
-or-right true b e = never (cc)
-or-right false b e = e
-
 -- records none of which is outside are between offices below n
 pub inside : {m lo hi : ℕ} {rs : List Record} (h : Header) → anyRecord (outside h) rs ≡ false → Ascending m lo hi rs → Ascending (h .n) lo hi rs
 unfolding anyRecord outside
 inside h e (none f) = none f
 inside h e (more {r} {rs} p f a) =
-    let here = not-false _ (or-left (outside h r) _ e) in
+    let here = not-false _ (not-left (outside h r) _ e) in
     more
     (record {
       by-below = ltb-true (r .by) (h .n) (left-of _ _ here);
       to-below = ltb-true (r .to) (h .n) (right-of (ltb (r .by) (h .n)) _ here);
       coded = p .coded;
     })
-    f (inside h (or-right (outside h r) _ e) a)
+    f (inside h (not-right (outside h r) _ e) a)
 
 -- and the other way round
 none-outside : {lo hi : ℕ} {rs : List Record} (h : Header) → Ascending (h .n) lo hi rs → anyRecord (outside h) rs ≡ false
@@ -120,24 +94,12 @@ none-forbidden h (more {r} {rs} p f a) free =
     rw (free (r .by) (r .to) (decoded (r .perm)) (p .by-below) (p .to-below) stood)
     (none-forbidden h a (λ i j q hi hj e. free i j q hi hj (rw (e, or-true))))
 
-module _ (h : Header) (R : List ℕ) (tested : sound h R ≡ true) where
-  sound-cell : (i j : ℕ) → i < h .n → j < h .n → soundCell h R (levels h R) i j ≡ true
-  unfolding sound soundBy
-  sound-cell i j hi hj =
-      all-at (h .n) (soundCell h R (levels h R) i)
-      (all-at (h .n) (λ x. allBelow (h .n) (λ y. soundCell h R (levels h R) x y)) tested i hi) j hj
-
-  pub sound-small : (i j : ℕ) → i < h .n → j < h .n → cell h R i j ≤ 15
-  unfolding soundCell
-  sound-small i j hi hj = leb-true (cell h R i j) 15 (left-of _ _ (left-of _ _ (sound-cell i j hi hj)))
-
-  sound-free : (i j : ℕ) (q : Permission) → i < h .n → j < h .n → has (cell h R i j) q ≡ true → barred h i j ≡ false
-  unfolding soundCell
-  sound-free i j q hi hj e = go (barred h i j) (right-of (leb (cell h R i j) 15) _ (left-of _ _ (sound-cell i j hi hj)))
-    where
-      go : (b : Bool) → (not b || eqb (cell h R i j) 0) ≡ true → b ≡ false
-      go true z = never (cc (eqb-true (cell h R i j) 0 z, has-zero q))
-      go false z = refl
+-- no record stands where no grant may
+sound-free :
+    (h : Header) (R : List ℕ) → sound h R ≡ true → (i j : ℕ) (q : Permission) → i < h .n → j < h .n → has (cell h R i j) q ≡ true →
+    barred h i j ≡ false
+sound-free h R tested i j q hi hj e =
+    fails (barred h i j) (λ b. let empty = sound-cells h R .0 tested i j hi hj .empty b in never (cc (no-record q)))
 
 -- no check refuses the records of a sound register
 pub accepted-sound :
@@ -145,10 +107,10 @@ pub accepted-sound :
     Accepted (record { header = h; records = allRecords h R }) size
 unfolding whole
 accepted-sound h R size head full tested room =
-    let small = headed-small h head in
+    let small = headed-high h head in
     let narrow : h .n ≤ 65536 = omega arith in
     let ascending = all-ascending h R narrow in
-    let same = filled-all h R narrow (eqb-true (length R) (h .n * h .n) full) (sound-small h R tested) in
+    let same = filled-all h R narrow (eqb-true (length R) (h .n * h .n) full) (λ i j hi hj. sound-cells h R .0 tested i j hi hj .small) in
     record {
       headed-ok = head;
       room-ok = room;

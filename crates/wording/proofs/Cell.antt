@@ -28,13 +28,6 @@ has-code p q =
     same-test (has (code p) q) (eqb (code q) (code p)) (λ e. eq-eqb (code q) (code p) (ap code (one-record p q e)))
     (λ e. rw (← (eqb-true (code q) (code p) e)) (has-itself q))
 
-pub has-zero : (p : Permission) → has 0 p ≡ false
-unfolding has code
-has-zero TT = refl
-has-zero TF = refl
-has-zero FT = refl
-has-zero FF = refl
-
 -- a code stands for a permission
 pub code-decoded : (k : ℕ) → isCode k ≡ true → code (decoded k) ≡ k
 unfolding isCode anyPermission code decoded

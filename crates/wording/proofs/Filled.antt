@@ -15,8 +15,8 @@ use Rattle.rights.specs.Deletion.{grantedCell, granted}
 use Rattle.wording.specs.Records.{Record}
 use Rattle.wording.specs.RegisterReader.{nothing, added, filled}
 use Rattle.theory.proofs.Register.{length-register, cell-register, same-cells}
-use Rattle.theory.proofs.Cell.{cellOf-small, cell-ext}
-use Rattle.wording.proofs.Cell.{has-union, has-code, has-zero, code-decoded}
+use Rattle.theory.proofs.Cell.{cellOf-small, cell-ext, no-record}
+use Rattle.wording.proofs.Cell.{has-union, has-code, code-decoded}
 use Rattle.wording.proofs.Order.{Ascending, none, more, isRecord, stands, same-list}
 use Rattle.wording.proofs.CellRecords.{allRecords, all-ascending, stands-all}
 
@@ -80,7 +80,7 @@ module _ (h : Header) where
       {n lo hi : ℕ} {rs : List Record} (x y : ℕ) (q : Permission) → x < h .n → y < h .n → Ascending n lo hi rs →
       has (cell h (filled h rs) x y) q ≡ stands rs x y (code q)
   unfolding filled nothing
-  has-filled x y q hx hy a = has-added (register h nothing) x y q hx hy a ∙ (rw (cell-register h nothing x y hx hy, has-zero))
+  has-filled x y q hx hy a = has-added (register h nothing) x y q hx hy a ∙ (rw (cell-register h nothing x y hx hy, no-record))
 
   -- a list of records in order is the list of its register
   pub all-filled : {hi : ℕ} {rs : List Record} → h .n ≤ 65536 → Ascending (h .n) 1 hi rs → allRecords h (filled h rs) ≡ rs

@@ -16,9 +16,9 @@ use Rattle.wording.specs.Word.{Kind, key, form, perms, wordFor}
 use Rattle.wording.specs.Line.{numeral, wordOf, lineText}
 use Rattle.wording.specs.Lines.{linesText, headerLines, headerValues, headerText}
 use Rattle.wording.specs.Records.{recordText, recordsText, joined, recordOf, cellRecords, rowRecords, rowText}
+use Rattle.theory.proofs.Ready.{headed-high, headed-inside}
 use Rattle.wording.proofs.Number.{numeral-digit, numeral-more}
 use Rattle.wording.proofs.Content.{records-text-append}
-use Rattle.wording.proofs.Accepted.{headed-small, headed-soa}
 
 -- a number below ten times the bound has one digit more at most
 one-digit : (v : ℕ) → v < 10 → length (numeral v) ≤ 1
@@ -80,14 +80,14 @@ cells-short (suc m) i c hi hm =
 pub row-short : (h : Header) (R : List ℕ) (i : ℕ) → headed h ≡ true → i < h .n → length (rowText h R i) ≤ 11264
 unfolding rowText rowRecords
 row-short h R i head hi =
-    let small = headed-small h head in
+    let small = headed-high h head in
     omega (arith, cells-short (h .n) i (cell h R i) (omega arith) (omega arith))
 
 -- the text of a header: n=128, soa=127, layer=65535
 pub header-short : (h : Header) → headed h ≡ true → h .layer .0 ≤ 65535 → length (headerText h) ≤ 26
 unfolding headerText linesText headerLines headerValues key form wordOf
 header-short h head layer =
-    let small = headed-small h head in
-    let soa = headed-soa h head in
+    let small = headed-high h head in
+    let soa = headed-inside h head in
     simp (length-append, line-length)
     (omega (arith, three-digits (h .n) (omega arith), three-digits (h .soa .0) (omega arith), five-digits (h .layer .0) (omega arith)))

@@ -15,11 +15,13 @@ use Rattle.wording.specs.Line.{fits}
 use Rattle.wording.specs.Lines.{offset, Reading, got, badAt, allFit, headerLines, headerValues}
 use Rattle.wording.specs.Records.{registerText}
 use Rattle.wording.specs.RegisterReader.{Content, contentOf, filled, contentRefusal, RegisterRead, registerDone, registerRefused, judged, registerRead}
+use Rattle.theory.proofs.Ready.{headed-high, headed-inside}
+use Rattle.theory.proofs.Sound.{sound-cells}
 use Rattle.wording.proofs.Lines.{offset-behind, rest-by-offset}
 use Rattle.wording.proofs.Filled.{length-filled, filled-all, all-filled}
 use Rattle.wording.proofs.CellRecords.{allRecords, all-ascending}
 use Rattle.wording.proofs.Content.{contentText, register-text, content-read, content-written}
-use Rattle.wording.proofs.Accepted.{accepted, accepted-sound, not-refused, headed-small, headed-soa, inside, wider, sound-small}
+use Rattle.wording.proofs.Accepted.{accepted, accepted-sound, not-refused, inside, wider}
 
 -- the cells that a reader has written
 abbrev pub cellsOf : RegisterRead → List ℕ
@@ -64,7 +66,7 @@ register-read-written text buffer e = go (ended text buffer)
     go : Ended text buffer → registerText (registerRead text buffer .header) (cellsOf (registerRead text buffer)) ++ registerRead text buffer .rest ≡ text
     go (done t rest q zero-refusal s) =
         let a = accepted t (length buffer) zero-refusal in
-        let small = headed-small (t .header) (a .headed-ok) in
+        let small = headed-high (t .header) (a .headed-ok) in
         let narrow : t .header .n ≤ 65536 = omega arith in
         let c = content-read text t rest q in
         let same = all-filled (t .header) narrow (inside (t .header) (a .inside-ok) (c .ascending)) in
@@ -117,8 +119,8 @@ register-buffer text buffer = go (ended text buffer)
 header-fits : (h : Header) → headed h ≡ true → h .layer .0 ≤ 65535 → allFit headerLines (headerValues h) ≡ true
 unfolding allFit headerLines headerValues fits form
 header-fits h head layer =
-    let small = headed-small h head in
-    let soa = headed-soa h head in
+    let small = headed-high h head in
+    let soa = headed-inside h head in
     rw (le-leb (h .n) 65535 (omega arith), le-leb (h .soa .0) 65535 (omega arith), le-leb (h .layer .0) 65535 layer)
 
 -- a sound register, written by header, rows and end and read with more text behind it, is the same register and header with that
@@ -137,11 +139,11 @@ pub register-written-read :
 unfolding registerRead judged registerDone whole
 register-written-read h R buffer behind head full tested layer room =
     let t : Content = record { header = h; records = allRecords h R } in
-    let small = headed-small h head in
+    let small = headed-high h head in
     let narrow : h .n ≤ 65536 = omega arith in
     let read : contentOf (registerText h R ++ behind) ≡ got t behind =
     rw (register-text h R) (content-written t behind (header-fits h head layer) (wider 65536 narrow (all-ascending h R narrow)))
     in
     let zero-refusal = not-refused t (length buffer) (accepted-sound h R (length buffer) head full tested room) in
-    let same = filled-all h R narrow (eqb-true (length R) (h .n * h .n) full) (sound-small h R tested) in
+    let same = filled-all h R narrow (eqb-true (length R) (h .n * h .n) full) (λ i j hi hj. sound-cells h R .0 tested i j hi hj .small) in
     rw (read, zero-refusal, same, offset-behind)

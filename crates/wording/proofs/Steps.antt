@@ -1,18 +1,13 @@
 -- The reader of records without its bound: the text's length is bound enough, so each step leaves the reading of what is left.
 use Prim.Native.Nat.{ℕ, zero, suc, _≤_, _<_}
 use mathlib.Core.Path.{_≡_, refl, sym, ap, _∙_}
-use mathlib.Core.Bool.{Bool, _||_, or-assoc, or-false}
 use mathlib.Core.List.{List, [], _∷_}
 use native.Mathlib.Omega.{arith}
 use lib.ListN.{length, length-append}
-use Rattle.rights.specs.declared.Header.{Header}
-use Rattle.rights.specs.Permission.{decoded}
-use Rattle.rights.specs.Deletion.{granted}
 use Rattle.wording.specs.Word.{key, endText}
 use Rattle.wording.specs.Line.{After, after, otherwise, afterWord, behindKey, lineOf}
 use Rattle.wording.specs.Lines.{Reading, got, badAt, andBefore}
 use Rattle.wording.specs.Records.{Record, withBy, recordFrom, recordsFrom}
-use Rattle.wording.specs.RegisterReader.{anyRecord, outside, forbidden, added}
 use Rattle.wording.proofs.Records.{Before, before-next, record-read, record-long, records-end, records-more, records-bad}
 
 -- with nothing left to read, a line is missing
@@ -76,29 +71,3 @@ pub step-bad :
     (last : Record) (text line : List ℕ) → Before last → afterWord endText text ≡ otherwise → recordFrom last text ≡ badAt line →
     recordsOn last text ≡ badAt line
 step-bad last text line f e g = one-more last text f ∙ records-bad (length text) last text line e g
-
--- What a loop over the records has found, in the end: whether a record is outside, whether one is forbidden, the cells with each
--- record added, and what stands behind the end line.
-pub data Found : Type 0 where
-  found : Bool → Bool → List ℕ → List ℕ → Found
-  stopped : List ℕ → Found
-
--- what it finds in the end, from what it has found so far and what is left to read
-unfoldable pub foundOn : Header → Bool → Bool → List ℕ → Reading (List Record) → Found
-foundOn h out barred cells (got rs rest) = found (out || anyRecord (outside h) rs) (barred || anyRecord (forbidden h) rs) (added h cells rs) rest
-foundOn h out barred cells (badAt line) = stopped line
-
--- one record more, and what is left gives what the whole gives
-pub found-more :
-    (h : Header) (out barred : Bool) (cells : List ℕ) (r : Record) (x : Reading (List Record)) →
-    foundOn h out barred cells (andBefore r x) ≡
-    foundOn h (out || outside h r) (barred || forbidden h r) (granted h cells (r .by) (r .to) (decoded (r .perm))) x
-unfolding foundOn andBefore anyRecord added
-found-more h out barred cells r (got rs rest) =
-    rw (or-assoc out (outside h r) (anyRecord (outside h) rs), or-assoc barred (forbidden h r) (anyRecord (forbidden h) rs))
-found-more h out barred cells r (badAt line) = refl
-
-pub found-end :
-    (h : Header) (out barred : Bool) (cells rest : List ℕ) → foundOn h out barred cells (got [] rest) ≡ found out barred cells rest
-unfolding foundOn anyRecord added
-found-end h out barred cells rest = rw (or-false out, or-false barred)

@@ -3,28 +3,28 @@
 use native.Mathlib.Omega.{arith}
 use mathlib.Core.Path.{sym}
 use borrow.Author.Needs.{needs}
-use Rattle.rights.specs.Permission.{TT, TF, FT, FF}
-use Rattle.cells.proofs.Byte.{as-TT, as-TF, as-FT, as-FF, bits, carries-bits}
+use Rattle.rights.specs.Permission.{TT, TF, FT, FF, code}
+use Rattle.cells.proofs.Byte.{as-code, as-FF, bits, carries-bits}
 use Rattle.cells.proofs.carries.Statement.{statement}
 use Rattle.cells.proofs.carries.Tie as tie
 
 returns : tie.Need-returns
-unfolding bits
-returns c = rw (as-TT (c .if1 .taken)) (sym (carries-bits (c .before .args .c) TT (omega arith)))
+unfolding bits code
+returns c = rw (as-code TT (c .if1 .taken)) (sym (carries-bits (c .before .args .c) TT (omega arith)))
 
 returns-2 : tie.Need-returns-2
-unfolding bits
-returns-2 c = rw (as-TF (c .if2 .taken)) (sym (carries-bits (c .before .before .args .c) TF (omega arith)))
+unfolding bits code
+returns-2 c = rw (as-code TF (c .if2 .taken)) (sym (carries-bits (c .before .before .args .c) TF (omega arith)))
 
 add-result : tie.Need-add-result
 add-result c = search needs
 
 returns-3 : tie.Need-returns-3
-unfolding bits
-returns-3 c = rw (as-FT (c .if3 .taken)) (sym (carries-bits (c .before .before .before .args .c) FT (omega arith)))
+unfolding bits code
+returns-3 c = rw (as-code FT (c .if3 .taken)) (sym (carries-bits (c .before .before .before .args .c) FT (omega arith)))
 
 returns-4 : tie.Need-returns-4
-unfolding bits
+unfolding bits code
 returns-4 c =
     rw (as-FF (c .before .before .if1 .left) (c .before .if2 .left) (c .if3 .left))
     (sym (carries-bits (c .before .before .before .args .c) FF (omega arith)))

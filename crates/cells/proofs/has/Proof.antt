@@ -1,22 +1,22 @@
 -- `cells::has` meets its contract: in each way the number is read as one permission. Assumes nothing.
 use native.Mathlib.Nat.{div-one}
-use Rattle.rights.specs.Permission.{code}
+use Rattle.rights.specs.Permission.{code, TT, TF, FT}
 use Rattle.rights.specs.Cell.{has}
-use Rattle.cells.proofs.Byte.{as-TT, as-TF, as-FT, as-FF}
+use Rattle.cells.proofs.Byte.{as-code, as-FF}
 use Rattle.cells.proofs.has.Statement.{statement}
 use Rattle.cells.proofs.has.Tie as tie
 
 returns : tie.Need-returns
 unfolding has code
-returns c = rw (as-TT (c .if1 .taken))
+returns c = rw (as-code TT (c .if1 .taken))
 
 returns-2 : tie.Need-returns-2
 unfolding has code
-returns-2 c = rw (as-TF (c .if2 .taken))
+returns-2 c = rw (as-code TF (c .if2 .taken))
 
 returns-3 : tie.Need-returns-3
 unfolding has code
-returns-3 c = rw (as-FT (c .if3 .taken))
+returns-3 c = rw (as-code FT (c .if3 .taken))
 
 returns-4 : tie.Need-returns-4
 unfolding has code

@@ -1,8 +1,9 @@
 -- `commands::refusal` meets its contract. Assumes nothing.
-use mathlib.Core.Path.{_≡_, refl, sym, _∙_}
-use borrow.Author.Tests.{eq-eqb, ne-eqb, not-true, not-false}
+use mathlib.Core.Path.{sym, _∙_}
+use borrow.Author.Tests.{eq-eqb, ne-eqb}
 use Rattle.rights.specs.Command.{refusal, isGrant}
-use Rattle.commands.proofs.Refusals.{first-applies, first-passed, register-read, grantor-inside}
+use Rattle.theory.proofs.Tests.{both}
+use Rattle.theory.proofs.Refusals.{first-applies, first-passed, register-ready, form-passed}
 use borrow.Author.Needs.{needs}
 use Rattle.commands.proofs.refusal.Statement.{statement}
 use Rattle.commands.proofs.refusal.Tie as tie
@@ -22,7 +23,9 @@ unfolding refusal isGrant
 returns-2 c = c .before .form-refusal .ensures ∙ sym (first-passed _ _ (sym (c .before .before .before .register-refusal .ensures) ∙ c .before .before .if1 .left) ∙ first-applies _ _ (λ e. c .if2 .taken (c .before .form-refusal .ensures ∙ e)))
 
 grant-refusal-requires : tie.Need-grant-refusal-requires
-grant-refusal-requires c κs = (register-read _ _ (sym (c .before .before .before .before .before .register-refusal .ensures) ∙ c .before .before .before .before .if1 .left), grantor-inside _ _ (sym (c .before .before .before .form-refusal .ensures) ∙ c .before .before .if2 .left))
+grant-refusal-requires c κs =
+    let ready = register-ready _ _ (sym (c .before .before .before .before .before .register-refusal .ensures) ∙ c .before .before .before .before .if1 .left) in
+    (both (ready .headed) (ready .whole), form-passed _ _ (sym (c .before .before .before .form-refusal .ensures) ∙ c .before .before .if2 .left) .by)
 
 returns-3 : tie.Need-returns-3
 unfolding refusal isGrant

@@ -1,20 +1,20 @@
 -- `cuts::record_of` meets its contract, code by code. Assumes nothing.
-use Rattle.rights.specs.Permission.{code}
-use Rattle.cells.proofs.Byte.{as-TT, as-TF, as-FT, as-FF}
+use Rattle.rights.specs.Permission.{code, TT, TF, FT}
+use Rattle.cells.proofs.Byte.{as-code, as-FF}
 use Rattle.cuts.proofs.record_of.Statement.{statement}
 use Rattle.cuts.proofs.record_of.Tie as tie
 
 returns : tie.Need-returns
 unfolding code
-returns c = rw (as-TT (c .match .keys1))
+returns c = rw (as-code TT (c .match .keys1))
 
 returns-2 : tie.Need-returns-2
 unfolding code
-returns-2 c = rw (as-TF (c .match .keys2))
+returns-2 c = rw (as-code TF (c .match .keys2))
 
 returns-3 : tie.Need-returns-3
 unfolding code
-returns-3 c = rw (as-FT (c .match .keys3))
+returns-3 c = rw (as-code FT (c .match .keys3))
 
 returns-4 : tie.Need-returns-4
 unfolding code

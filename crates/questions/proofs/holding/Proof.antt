@@ -2,7 +2,8 @@
 use mathlib.Core.Path.{sym, _∙_}
 use borrow.Author.Needs.{needs}
 use Rattle.theory.proofs.Ready.{headed-high, headed-inside}
-use Rattle.questions.proofs.Refusals.{register-headed, form-office, form-room}
+use Rattle.theory.proofs.Refusals.{register-ready}
+use Rattle.questions.proofs.Refusals.{form-office, form-room}
 use Rattle.questions.proofs.Answered.{parts, answered-register, answered-form, answered-searched}
 use Rattle.questions.proofs.holding.Statement.{statement}
 use Rattle.questions.proofs.holding.Tie as tie
@@ -26,7 +27,7 @@ search-requires : tie.Need-search-requires
 search-requires c κs =
     let form = c .before .before in
     let stands = form .before in
-    let headed = register-headed _ _ (sym (stands .before .register-refusal .ensures) ∙ stands .if1 .left) in
+    let headed = register-ready _ _ (sym (stands .before .register-refusal .ensures) ∙ stands .if1 .left) .headed in
     let formed = sym (form .form-refusal .ensures) ∙ c .before .if2 .left in
     ((headed-high _ headed, headed-inside _ headed), (form-office _ _ _ _ formed, form-room _ _ _ _ formed))
 

@@ -1,23 +1,23 @@
 -- `writers::perm_line` meets its contract: in each way the number is read as one permission. Assumes nothing.
-use Rattle.rights.specs.Permission.{code}
+use Rattle.rights.specs.Permission.{code, TT, TF, FT}
 use Rattle.wording.specs.Word.{key, form, perms, wordFor}
 use Rattle.wording.specs.Line.{wordOf, lineText}
-use Rattle.cells.proofs.Byte.{as-TT, as-TF, as-FT, as-FF}
+use Rattle.cells.proofs.Byte.{as-code, as-FF}
 use Rattle.writers.specs.Row.{permText}
 use Rattle.writers.proofs.perm_line.Statement.{statement}
 use Rattle.writers.proofs.perm_line.Tie as tie
 
 returns : tie.Need-returns
 unfolding permText code lineText key form wordOf perms wordFor
-returns c = rw (as-TT (c .before .before .if1 .taken))
+returns c = rw (as-code TT (c .before .before .if1 .taken))
 
 returns-2 : tie.Need-returns-2
 unfolding permText code lineText key form wordOf perms wordFor
-returns-2 c = rw (as-TF (c .before .before .if2 .taken))
+returns-2 c = rw (as-code TF (c .before .before .if2 .taken))
 
 returns-3 : tie.Need-returns-3
 unfolding permText code lineText key form wordOf perms wordFor
-returns-3 c = rw (as-FT (c .before .before .if3 .taken))
+returns-3 c = rw (as-code FT (c .before .before .if3 .taken))
 
 returns-4 : tie.Need-returns-4
 unfolding permText code lineText key form wordOf perms wordFor

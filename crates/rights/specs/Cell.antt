@@ -1,6 +1,6 @@
 -- A cell: 'a set of permissions .. Each member is one record' (01, 'Numbers'). A set of four is a number below 16.
 use Prim.Native.Nat.{ℕ, zero, suc, _+_, _/_, _%_}
-use mathlib.Core.Bool.{Bool, true, false, _&&_, _||_, not, cond}
+use mathlib.Core.Bool.{Bool, false, _&&_, _||_, not, cond}
 use lib.Dec.{eqb}
 use Rattle.rights.specs.Permission.{Permission, TT, TF, FT, FF, code, anyPermission, serves}
 

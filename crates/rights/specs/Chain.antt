@@ -1,7 +1,7 @@
 -- Rooted chains, as 01, 'Permissions and chains', has them: the definition that every other account of holding is proved against.
 use Prim.Native.Nat.{ℕ, _<_}
 use mathlib.Core.Path.{_≡_}
-use mathlib.Core.Bool.{Bool, true, false, _&&_, _||_}
+use mathlib.Core.Bool.{Bool, true, false, _||_}
 use mathlib.Core.List.{List, [], _∷_, _++_}
 use lib.Dec.{eqb}
 use Rattle.rights.specs.declared.Header.{Header}

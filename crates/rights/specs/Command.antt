@@ -1,13 +1,13 @@
 -- A command with its refusals (01, 'Commands' and 'Refusal numbers').
 use Prim.Native.Nat.{ℕ}
-use mathlib.Core.Bool.{Bool, true, false, _&&_, not, cond}
+use mathlib.Core.Bool.{Bool, _&&_, not, cond}
 use mathlib.Core.List.{List}
 use lib.Dec.{eqb, ltb, leb}
 use Rattle.rights.specs.declared.Header.{Header}
 use Rattle.rights.specs.declared.Command.{Command}
 use Rattle.rights.specs.Permission.{Permission, isCode, decoded, entitles, anyPermission}
 use Rattle.rights.specs.Cell.{has}
-use Rattle.rights.specs.Register.{cell, soaOf}
+use Rattle.rights.specs.Register.{cell}
 use Rattle.rights.specs.Level.{holds}
 use Rattle.rights.specs.Sound.{barred, firstOf, unless, registerRefusal}
 use Rattle.rights.specs.Deletion.{granted, wld, wgd, sld, sgd}

@@ -1,8 +1,8 @@
 -- The holding question, and the chain that 01 picks (01, 'Refusal numbers').
 use Prim.Native.Nat.{ℕ, zero, suc}
-use mathlib.Core.Bool.{Bool, true, false, _&&_, not, cond}
+use mathlib.Core.Bool.{Bool, _&&_, cond}
 use mathlib.Core.List.{List, [], _∷_, _++_}
-use lib.ListN.{length, getD, drop}
+use lib.ListN.{length, drop}
 use lib.Dec.{eqb, ltb, leb}
 use Rattle.rights.specs.declared.Header.{Header}
 use Rattle.rights.specs.Below.{anyBelow, firstBelow, table}

@@ -4,15 +4,15 @@ use mathlib.Core.Path.{_≡_, refl}
 use mathlib.Core.Bool.{Bool, true, false, cond}
 use mathlib.Core.List.{List, [], _∷_, _++_, append-assoc}
 use lib.ListN.{length, drop}
-use Rattle.wording.specs.Word.{Kind, byLine, toLine, permLine, endText}
-use Rattle.wording.specs.Line.{After, after, otherwise, afterWord, Line, value, bad, lineOf, lineText}
+use Rattle.wording.specs.Word.{Kind, byLine, toLine, permLine}
+use Rattle.wording.specs.Line.{Line, value, bad, lineOf, lineText}
 use Rattle.wording.specs.Lines.{offset, Reading, got, badAt, andBefore, linesOf, linesText, headerLines, headerOf, commandLines}
 use Rattle.wording.specs.Records.{Record, first, recordText, byMay, toMay, permMay, withPerm, withTo, withBy, recordFrom, recordsFrom}
 use Rattle.wording.specs.RegisterReader.{withHeader, behindHeader, contentOf}
 use Rattle.wording.proofs.Truth.{never}
 use Rattle.wording.proofs.Line.{line-read}
 use Rattle.wording.proofs.Lines.{rest-by-offset, lines-read}
-use Rattle.wording.proofs.Records.{Before, before-first, before-next, record-read, records-end, records-more, records-bad}
+use Rattle.wording.proofs.Records.{Before, before-first, before-next, record-read, records-end, records-more, records-bad, records-cases}
 
 -- the text ends with the part
 record EndsWith (text part : List ℕ) : Type 0 where
@@ -83,22 +83,15 @@ record-within last text = by-within last text (lineOf byLine text) refl
 records-within : (k : ℕ) (last : Record) (text : List ℕ) → Before last → BadWithin text (recordsFrom k last text)
 unfolding recordsFrom
 records-within zero last text f = itself text
-records-within (suc k) last text f = at-line (λ r s. records-within k r s) (afterWord endText text) refl
-  where
-    Behind : Type 0
-    Behind = (r : Record) (s : List ℕ) → Before r → BadWithin s (recordsFrom k r s)
-
-    at-record : Behind → afterWord endText text ≡ otherwise → (x : Reading Record) → recordFrom last text ≡ x → BadWithin text (recordsFrom (suc k) last text)
-    at-record within q (badAt line) w = rw (records-bad k last text line q w) (rw w at (record-within last text))
-    at-record within q (got r s) w =
-        let one = record-read last text r s f w in
-        rw (records-more k last text r s q w)
-        (bad-before text r (recordsFrom k r s)
-        (bad-behind text (recordText r) s (recordsFrom k r s) (one .written) (within r s (before-next r (one .proper)))))
-
-    at-line : Behind → (x : After) → afterWord endText text ≡ x → BadWithin text (recordsFrom (suc k) last text)
-    at-line within (after s) q = rw (records-end k last text s q) tt
-    at-line within otherwise q = at-record within q (recordFrom last text) refl
+records-within (suc k) last text f =
+    records-cases last text
+    (λ s q. rw (records-end k last text s q) tt)
+    (λ line q w. rw (records-bad k last text line q w) (rw w at (record-within last text)))
+    (λ r s q w.
+    let one = record-read last text r s f w in
+    rw (records-more k last text r s q w)
+    (bad-before text r (recordsFrom k r s)
+    (bad-behind text (recordText r) s (recordsFrom k r s) (one .written) (records-within k r s (before-next r (one .proper))))))
 
 header-within : (h : List ℕ) (x : Reading (List Record)) (text : List ℕ) → BadWithin text x → BadWithin text (withHeader (headerOf h) x)
 unfolding withHeader

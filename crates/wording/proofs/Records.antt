@@ -180,6 +180,21 @@ pub records-bad :
 unfolding recordsFrom
 records-bad k last text line e f = rw (e, f, recordsFrom)
 
+-- and one of them it finds: the end line, a bad line or a record
+pub records-cases :
+    {P : Type 0} (last : Record) (text : List ℕ) → ((s : List ℕ) → afterWord endText text ≡ after s → P) →
+    ((line : List ℕ) → afterWord endText text ≡ otherwise → recordFrom last text ≡ badAt line → P) →
+    ((r : Record) (s : List ℕ) → afterWord endText text ≡ otherwise → recordFrom last text ≡ got r s → P) → P
+records-cases {P} last text ends stops goes-on = at-line (afterWord endText text) refl
+  where
+    at-record : afterWord endText text ≡ otherwise → (x : Reading Record) → recordFrom last text ≡ x → P
+    at-record q (badAt line) w = stops line q w
+    at-record q (got r s) w = goes-on r s q w
+
+    at-line : (x : After) → afterWord endText text ≡ x → P
+    at-line (after s) q = ends s q
+    at-line otherwise q = at-record q (recordFrom last text) refl
+
 -- every rank is below this
 abbrev pub top : ℕ
 top = 65536 * 65536 * 16 + 1
@@ -194,30 +209,23 @@ pub records-read :
     RecordsRead last text rs rest
 unfolding recordsFrom recordsText
 records-read zero last text rs rest f e = never (cc)
-records-read (suc k) last text rs rest f e = at-line (λ r s read. records-read k r s read rest) (afterWord endText text) refl
-  where
-    Behind : Type 0
-    Behind = (r : Record) (s : List ℕ) (read : List Record) → Before r → recordsFrom k r s ≡ got read rest → RecordsRead r s read rest
-
-    at-record : Behind → afterWord endText text ≡ otherwise → (x : Reading Record) → recordFrom last text ≡ x → RecordsRead last text rs rest
-    at-record behind q (badAt line) w = never (cc (records-bad k last text line q w))
-    at-record behind q (got r s) w =
-        let one = record-read last text r s f w in
-        let b = got-before r (recordsFrom k r s) rs rest (sym (records-more k last text r s q w) ∙ e) in
-        let others = behind r s (b .0) (before-next r (one .proper)) (b .1) in
-        rw (← (b .2))
-        record {
-          written = simp append-assoc (cc (others .written, one .written));
-          ascending = more (one .proper) (one .above) (others .ascending);
-        }
-
-    at-line : Behind → (a : After) → afterWord endText text ≡ a → RecordsRead last text rs rest
-    at-line behind (after s) q =
-        let none-read : [] ≡ rs = cc (records-end k last text s q) in
-        let same : s ≡ rest = cc (records-end k last text s q) in
-        let below : suc (rankOf last) ≤ top = omega arith in
-        rw (← none-read) record { written = after-word-read endText text rest (q ∙ ap after same); ascending = none below }
-    at-line behind otherwise q = at-record behind q (recordFrom last text) refl
+records-read (suc k) last text rs rest f e =
+    records-cases last text
+    (λ s q.
+    let none-read : [] ≡ rs = cc (records-end k last text s q) in
+    let same : s ≡ rest = cc (records-end k last text s q) in
+    let below : suc (rankOf last) ≤ top = omega arith in
+    rw (← none-read) record { written = after-word-read endText text rest (q ∙ ap after same); ascending = none below })
+    (λ line q w. never (cc (records-bad k last text line q w)))
+    (λ r s q w.
+    let one = record-read last text r s f w in
+    let b = got-before r (recordsFrom k r s) rs rest (sym (records-more k last text r s q w) ∙ e) in
+    let others = records-read k r s (b .0) rest (before-next r (one .proper)) (b .1) in
+    rw (← (b .2))
+    record {
+      written = simp append-assoc (cc (others .written, one .written));
+      ascending = more (one .proper) (one .above) (others .ascending);
+    })
 
 not-end : (r : Record) (rest : List ℕ) → afterWord endText (recordText r ++ rest) ≡ otherwise
 unfolding afterWord endText recordText lineText key

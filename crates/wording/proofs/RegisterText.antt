@@ -5,7 +5,7 @@ use mathlib.Core.Bool.{Bool, true, false}
 use mathlib.Core.List.{List, _++_}
 use native.Mathlib.Omega.{arith}
 use lib.Dec.{eqb}
-use lib.ListN.{length, take, drop, replicate, length-append, length-replicate}
+use lib.ListN.{length, take, drop, replicate}
 use lib.Seq.{drop-length, take-at}
 use borrow.Author.Tests.{eqb-true, eqb-false, eq-eqb, le-leb}
 use Rattle.rights.specs.declared.Header.{Header}
@@ -103,17 +103,6 @@ register-rest text buffer = go (ended text buffer)
     go : Ended text buffer → registerRead text buffer .rest ≡ drop (registerRead text buffer .next) text
     go (done t rest q zero-refusal s) = rw s (rest-by-offset (contentText t) rest text (content-read text t rest q .written))
     go (refused number at some s) = rw s (sym (drop-length text))
-
--- the buffer keeps its length
-pub register-buffer : (text buffer : List ℕ) → length (registerRead text buffer .buffer) ≡ length buffer
-unfolding registerDone registerRefused
-register-buffer text buffer = go (ended text buffer)
-  where
-    go : Ended text buffer → length (registerRead text buffer .buffer) ≡ length buffer
-    go (done t rest q zero-refusal s) =
-        let room = accepted t (length buffer) zero-refusal .room-ok in
-        rw s (simp (length-append, length-replicate) (omega (arith, length-filled (t .header) (t .records))))
-    go (refused number at some s) = rw s (length-replicate (length buffer) 0)
 
 -- the values of a header fit their lines
 header-fits : (h : Header) → headed h ≡ true → h .layer .0 ≤ 65535 → allFit headerLines (headerValues h) ≡ true

@@ -5,10 +5,10 @@ use mathlib.Core.List.{List, [], _∷_}
 use native.Mathlib.Omega.{arith}
 use lib.ListN.{length, length-append}
 use Rattle.wording.specs.Word.{key, endText}
-use Rattle.wording.specs.Line.{After, after, otherwise, afterWord, behindKey, lineOf}
+use Rattle.wording.specs.Line.{after, otherwise, afterWord, behindKey, lineOf}
 use Rattle.wording.specs.Lines.{Reading, got, badAt, andBefore}
 use Rattle.wording.specs.Records.{Record, withBy, recordFrom, recordsFrom}
-use Rattle.wording.proofs.Records.{Before, before-next, record-read, record-long, records-end, records-more, records-bad}
+use Rattle.wording.proofs.Records.{Before, before-next, record-read, record-long, records-end, records-more, records-bad, records-cases}
 
 -- with nothing left to read, a line is missing
 records-missing : (k : ℕ) (last : Record) → recordsFrom k last [] ≡ badAt []
@@ -27,23 +27,16 @@ records-enough zero l last [] f a b = records-missing zero last ∙ sym (records
 records-enough zero l last (c ∷ text) f a b = let z : ⊥ = omega arith in absurd z
 records-enough (suc k) zero last [] f a b = records-missing (suc k) last ∙ sym (records-missing zero last)
 records-enough (suc k) zero last (c ∷ text) f a b = let z : ⊥ = omega arith in absurd z
-records-enough (suc k) (suc l) last text f a b = at-line (λ r s. records-enough k l r s) (afterWord endText text) refl
-  where
-    Behind : Type 0
-    Behind = (r : Record) (s : List ℕ) → Before r → length s ≤ k → length s ≤ l → recordsFrom k r s ≡ recordsFrom l r s
-
-    at-record : Behind → afterWord endText text ≡ otherwise → (x : Reading Record) → recordFrom last text ≡ x → recordsFrom (suc k) last text ≡ recordsFrom (suc l) last text
-    at-record behind q (badAt line) w = records-bad k last text line q w ∙ sym (records-bad l last text line q w)
-    at-record behind q (got r s) w =
-        let shorter = record-shorter last text r s f w in
-        let proper = record-read last text r s f w .proper in
-        records-more k last text r s q w
-        ∙ ap (andBefore r) (behind r s (before-next r proper) (omega arith) (omega arith))
-        ∙ sym (records-more l last text r s q w)
-
-    at-line : Behind → (x : After) → afterWord endText text ≡ x → recordsFrom (suc k) last text ≡ recordsFrom (suc l) last text
-    at-line behind (after s) q = records-end k last text s q ∙ sym (records-end l last text s q)
-    at-line behind otherwise q = at-record behind q (recordFrom last text) refl
+records-enough (suc k) (suc l) last text f a b =
+    records-cases last text
+    (λ s q. records-end k last text s q ∙ sym (records-end l last text s q))
+    (λ line q w. records-bad k last text line q w ∙ sym (records-bad l last text line q w))
+    (λ r s q w.
+    let shorter = record-shorter last text r s f w in
+    let proper = record-read last text r s f w .proper in
+    records-more k last text r s q w
+    ∙ ap (andBefore r) (records-enough k l r s (before-next r proper) (omega arith) (omega arith))
+    ∙ sym (records-more l last text r s q w))
 
 -- the records from here on
 abbrev pub recordsOn : Record → List ℕ → Reading (List Record)

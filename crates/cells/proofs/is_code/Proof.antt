@@ -1,5 +1,5 @@
 -- `cells::is_code` meets its contract. Assumes nothing.
-use borrow.Author.Tests.{eq-eqb, ne-eqb, not-true, not-false}
+use borrow.Author.Tests.{eq-eqb, ne-eqb}
 use Rattle.rights.specs.Permission.{code, anyPermission, isCode}
 use Rattle.cells.proofs.is_code.Statement.{statement}
 use Rattle.cells.proofs.is_code.Tie as tie

@@ -1,5 +1,5 @@
 -- `commands::barred` meets its contract. Assumes nothing.
-use borrow.Author.Tests.{eq-eqb, ne-eqb, lt-ltb, le-ltb, le-leb, lt-leb, not-true, not-false}
+use borrow.Author.Tests.{eq-eqb, ne-eqb}
 use Rattle.rights.specs.Sound.{barred}
 use Rattle.commands.proofs.barred.Statement.{statement}
 use Rattle.commands.proofs.barred.Tie as tie

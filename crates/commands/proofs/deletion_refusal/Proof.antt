@@ -1,6 +1,5 @@
 -- `commands::deletion_refusal` meets its contract. Assumes nothing.
-use mathlib.Core.Path.{_≡_, refl, sym, _∙_}
-use borrow.Author.Tests.{eq-eqb, ne-eqb, lt-ltb, le-ltb, le-leb, lt-leb, not-true, not-false}
+use borrow.Author.Tests.{eq-eqb, ne-eqb}
 use Rattle.rights.specs.Sound.{unless}
 use Rattle.rights.specs.Command.{deletionRefusal}
 use borrow.Author.Needs.{needs}

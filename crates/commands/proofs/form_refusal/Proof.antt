@@ -1,6 +1,6 @@
 -- `commands::form_refusal` meets its contract. Assumes nothing.
-use mathlib.Core.Path.{_≡_, refl, sym, _∙_}
-use borrow.Author.Tests.{eq-eqb, ne-eqb, lt-ltb, le-ltb, le-leb, lt-leb, not-true, not-false}
+use mathlib.Core.Path.{sym, _∙_}
+use borrow.Author.Tests.{eq-eqb, ne-eqb, not-true, not-false}
 use Rattle.rights.specs.Sound.{firstOf, unless}
 use Rattle.rights.specs.Command.{formRefusal}
 use borrow.Author.Needs.{needs}

@@ -1,8 +1,8 @@
 -- `commands::grant_refusal` meets its contract. Assumes nothing.
-use mathlib.Core.Path.{_≡_, refl, sym, _∙_}
-use borrow.Author.Tests.{eq-eqb, ne-eqb, not-true, not-false}
+use mathlib.Core.Path.{sym, _∙_}
+use borrow.Author.Tests.{not-true, not-false}
 use native.Mathlib.Omega.{arith}
-use Rattle.rights.specs.Sound.{firstOf, unless, headed, whole}
+use Rattle.rights.specs.Sound.{firstOf, unless}
 use Rattle.rights.specs.Command.{grantRefusal}
 use Rattle.theory.proofs.Tests.{left-of}
 use Rattle.theory.proofs.Ready.{headed-high}

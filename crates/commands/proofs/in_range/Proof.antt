@@ -1,5 +1,5 @@
 -- `commands::in_range` meets its contract. Assumes nothing.
-use borrow.Author.Tests.{eq-eqb, ne-eqb, lt-ltb, le-ltb, le-leb, lt-leb, not-true, not-false}
+use borrow.Author.Tests.{lt-ltb, le-ltb}
 use Rattle.commands.proofs.in_range.Statement.{statement}
 use Rattle.commands.proofs.in_range.Tie as tie
 

@@ -1,6 +1,5 @@
 -- `commands::well_formed` meets its contract. Assumes nothing.
-use mathlib.Core.Path.{_≡_, refl, sym, _∙_}
-use borrow.Author.Tests.{eq-eqb, ne-eqb, lt-ltb, le-ltb, le-leb, lt-leb, not-true, not-false}
+use borrow.Author.Tests.{eq-eqb, ne-eqb, le-leb, lt-leb}
 use Rattle.rights.specs.Command.{wellFormed, isGrant}
 use borrow.Author.Needs.{needs}
 use Rattle.commands.proofs.well_formed.Statement.{statement}

@@ -3,7 +3,7 @@ use mathlib.Core.Path.{sym, _∙_}
 use borrow.Author.Needs.{needs}
 use Rattle.rights.specs.Permission.{decoded, anyPermission}
 use Rattle.theory.proofs.Cell.{any-permission-from}
-use Rattle.holdings.specs.Loser.{losesOne, loses}
+use Rattle.holdings.specs.Loser.{loses}
 use Rattle.holdings.proofs.loses.Statement.{statement}
 use Rattle.holdings.proofs.loses.Tie as tie
 

@@ -15,7 +15,7 @@ use Rattle.theory.proofs.Below.{any-ext, table-ext}
 use Rattle.levels.specs.Padded.{padded, paddedLevels}
 use Rattle.levels.proofs.Padded.{getD-padded}
 use Rattle.levels.proofs.Given.{levels-read}
-use Rattle.holdings.specs.Loser.{losesOne, loses, markBy, paddedLosers}
+use Rattle.holdings.specs.Loser.{markBy, paddedLosers}
 
 holds-padded : (h : Header) (R ls : List ℕ) (p : Permission) (y : ℕ) → holdsBy h R (padded 0 ls) p y ≡ holdsBy h R ls p y
 unfolding holdsBy levelIn
@@ -25,7 +25,7 @@ holds-padded h R ls p y =
     (λ x hx. ap (λ (v : ℕ). leb (need p) v && carries (cell h R x y) p) (getD-padded 0 ls x)))
 
 mark-padded : (h : Header) (R before S after : List ℕ) (y : ℕ) → markBy h R (padded 0 before) S (padded 0 after) y ≡ markBy h R before S after y
-unfolding markBy loses losesOne
+unfolding markBy
 mark-padded h R before S after y =
     ap (λ (f : Permission → Bool). cond (anyPermission f) 1 0)
     (fun-ext (λ p. rw (holds-padded h R before p y, holds-padded h S after p y)))

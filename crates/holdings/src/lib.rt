@@ -7,8 +7,9 @@ ghost use Prim.Native.Nat.{_≤_, _<_};
 ghost use Rattle.levels.specs.Padded.{padded};
 ghost use Rattle.rights.specs.Below.{table};
 ghost use Rattle.rights.specs.Permission.{decoded};
-ghost use Rattle.rights.specs.Level.{holdsBy};
-ghost use Rattle.holdings.specs.Loser.{passesOn, losesOne, loses as losesBy, markBy, paddedLosers};
+ghost use Rattle.rights.specs.Level.{holdsBy, passesOn};
+ghost use Rattle.rights.specs.Deletion.{losesOne, loses as losesBy};
+ghost use Rattle.holdings.specs.Loser.{markBy, paddedLosers};
 
 // Whether office x may pass the permission on to y and has a link there that carries it.
 fn passes_on(cells: &[u8], header: Header, levels: &[u8; 128], perm: u8, y: u16, x: u16) -> bool

@@ -10,12 +10,11 @@ use Rattle.rights.specs.declared.Header.{Header}
 use Rattle.rights.specs.Below.{table}
 use Rattle.rights.specs.Permission.{Permission, TT, TF}
 use Rattle.rights.specs.Register.{soaOf}
-use Rattle.rights.specs.Level.{isIn, linked, reached, levelsAmong, everyOffice, otherThan, levels, independentLevels, levelIn}
+use Rattle.rights.specs.Level.{isIn, linked, reached, levelsAmong, everyOffice, otherThan, levels, independentLevels, levelIn, levelBy}
 use Rattle.rights.specs.Sound.{headed, whole, readable}
 use Rattle.theory.proofs.Tests.{left-of}
 use Rattle.theory.proofs.Below.{table-ext}
 use Rattle.theory.proofs.Ready.{headed-inside, headed-high}
-use Rattle.levels.specs.Round.{levelBy}
 use Rattle.levels.specs.Padded.{padded, paddedLevels, paddedIndependent}
 use Rattle.levels.proofs.Padded.{getD-padded}
 use Rattle.levels.proofs.Rounds.{in-padded, marksAfter}
@@ -24,7 +23,7 @@ use Rattle.levels.proofs.Rounds.{in-padded, marksAfter}
 pub levels-by-marks :
     (h : Header) (R : List ℕ) (out : ℕ) →
     table (h .n) (levelBy (marksAfter h R out TT (h .n)) (marksAfter h R out TF (h .n))) ≡ independentLevels h R out
-unfolding levelBy marksAfter independentLevels levelsAmong
+unfolding marksAfter independentLevels levelsAmong
 levels-by-marks h R out =
     table-ext (h .n) _ _
     (λ j l. ap₂ (λ (a b : Bool). cond a 2 (cond b 1 0)) (in-padded (reached h R (otherThan out) TT (h .n)) j)

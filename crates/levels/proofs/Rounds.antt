@@ -2,9 +2,9 @@
 use Prim.Native.Nat.{ℕ, zero, suc, _+_, _≤_, _<_}
 use native.Mathlib.Numerals.{add-one}
 use native.Mathlib.Omega.{arith}
-use mathlib.Core.Path.{_≡_, refl, ap, ap₂, sym, _∙_}
+use mathlib.Core.Path.{_≡_, refl, ap, sym, _∙_}
 use mathlib.Core.Logic.{⊎-elim}
-use mathlib.Core.Bool.{Bool, true, false, _&&_, _||_, and-not-self}
+use mathlib.Core.Bool.{Bool, true, false, and-not-self}
 use mathlib.Core.List.{List}
 use lib.ListN.{length, getD, set, replicate, length-set, length-replicate}
 use lib.Seq.{getD-set-same, getD-set-other, ext-getD}
@@ -13,13 +13,13 @@ use borrow.Author.Tests.{eqb-true, eqb-false, ne-eqb}
 use Rattle.rights.specs.declared.Header.{Header}
 use Rattle.rights.specs.Below.{table}
 use Rattle.rights.specs.Permission.{Permission}
-use Rattle.rights.specs.Cell.{carries}
-use Rattle.rights.specs.Register.{cell, soaOf}
-use Rattle.rights.specs.Level.{isIn, linked, reached, otherThan}
+use Rattle.rights.specs.Register.{soaOf}
+use Rattle.rights.specs.Level.{isIn, reached, otherThan, markedFirst, markedNext, marking}
 use Rattle.theory.proofs.Tests.{decided, beq-same}
-use Rattle.theory.proofs.Below.{all-at, any-ext, table-ext, length-table}
+use Rattle.theory.proofs.Below.{all-at, length-table}
 use Rattle.theory.proofs.Growth.{stays}
-use Rattle.levels.specs.Round.{markedFirst, markedNext, marking, sameMark, sameMarks}
+use Rattle.theory.proofs.Level.{marking-ext}
+use Rattle.levels.specs.Marks.{sameMark, sameMarks}
 use Rattle.levels.specs.Padded.{padded}
 use Rattle.levels.proofs.Padded.{all-none, getD-padded, length-padded, padded-of}
 
@@ -29,26 +29,17 @@ unfolding isIn
 in-padded set y = getD-padded false set y
 
 module _ (h : Header) (R : List ℕ) (out : ℕ) (p : Permission) where
-  -- a round goes by what is in the set alone
-  marking-ext : (A B : List Bool) → ((y : ℕ) → isIn A y ≡ isIn B y) → marking h R out p A ≡ marking h R out p B
-  unfolding marking markedNext linked
-  marking-ext A B e =
-      table-ext (h .n) (markedNext h R out p A) (markedNext h R out p B)
-      (λ y l. ap₂ (λ (a b : Bool). a || otherThan out y && b) (e y)
-      (any-ext (h .n) (λ x. isIn A x && carries (cell h R x y) p) (λ x. isIn B x && carries (cell h R x y) p)
-      (λ x m. ap (λ (a : Bool). a && carries (cell h R x y) p) (e x))))
-
   -- the next round of the definition, from the marks made up to 128
-  pub next-round : (d : ℕ) → reached h R (otherThan out) p (suc d) ≡ marking h R out p (padded false (reached h R (otherThan out) p d))
-  unfolding reached marking markedNext
+  pub next-round : (d : ℕ) → reached h R (otherThan out) p (suc d) ≡ marking h R (otherThan out) p (padded false (reached h R (otherThan out) p d))
+  unfolding reached
   next-round d =
-      sym (marking-ext (padded false (reached h R (otherThan out) p d)) (reached h R (otherThan out) p d) (in-padded (reached h R (otherThan out) p d)))
+      sym (marking-ext h R (otherThan out) p _ _ (λ y l. in-padded (reached h R (otherThan out) p d) y))
 
 -- with SOA left out nobody is marked at first
-pub first-none : (h : Header) (out : ℕ) → h .n ≤ 128 → soaOf h ≡ out → replicate 128 false ≡ padded false (table (h .n) (markedFirst h out))
-unfolding markedFirst otherThan
+pub first-none : (h : Header) (out : ℕ) → h .n ≤ 128 → soaOf h ≡ out → replicate 128 false ≡ padded false (table (h .n) (markedFirst h (otherThan out)))
+unfolding otherThan
 first-none h out small e =
-    padded-of false (markedFirst h out) (h .n) (replicate 128 false) small (length-replicate 128 false)
+    padded-of false (markedFirst h (otherThan out)) (h .n) (replicate 128 false) small (length-replicate 128 false)
     (λ k l. all-none false 128 k ∙ sym (rw e (and-not-self (eqb k out))))
     (λ k l. all-none false 128 k)
 
@@ -58,10 +49,10 @@ pub first-soa :
     h .n ≤ 128 →
     soaOf h < h .n →
     (soaOf h ≡ out → ⊥) →
-    set (replicate 128 false) (soaOf h) true ≡ padded false (table (h .n) (markedFirst h out))
-unfolding markedFirst otherThan
+    set (replicate 128 false) (soaOf h) true ≡ padded false (table (h .n) (markedFirst h (otherThan out)))
+unfolding otherThan
 first-soa h out small inside ne =
-    padded-of false (markedFirst h out) (h .n) (set (replicate 128 false) (soaOf h) true) small
+    padded-of false (markedFirst h (otherThan out)) (h .n) (set (replicate 128 false) (soaOf h) true) small
     (simp (length-set, length-replicate))
     (λ k l. ⊎-elim
     (λ t. let e : k ≡ soaOf h = eqb-true k (soaOf h) t in
@@ -82,21 +73,21 @@ module _ (h : Header) (R : List ℕ) (out : ℕ) (p : Permission) where
   unfoldable pub marksAfter : ℕ → List Bool
   marksAfter d = padded false (reached h R (otherThan out) p d)
 
-  pub marks-first : padded false (table (h .n) (markedFirst h out)) ≡ marksAfter 0
-  unfolding marksAfter reached markedFirst
+  pub marks-first : padded false (table (h .n) (markedFirst h (otherThan out))) ≡ marksAfter 0
+  unfolding marksAfter reached
   marks-first = refl
 
-  marks-step : (d : ℕ) → marksAfter (suc d) ≡ padded false (marking h R out p (marksAfter d))
+  marks-step : (d : ℕ) → marksAfter (suc d) ≡ padded false (marking h R (otherThan out) p (marksAfter d))
   unfolding marksAfter
   marks-step d = ap (padded false) (next-round h R out p d)
 
-  pub marks-next : (d : ℕ) → padded false (marking h R out p (marksAfter d)) ≡ marksAfter (d + 1)
+  pub marks-next : (d : ℕ) → padded false (marking h R (otherThan out) p (marksAfter d)) ≡ marksAfter (d + 1)
   marks-next d = rw add-one (sym (marks-step d))
 
   length-reached : (d : ℕ) → length (reached h R (otherThan out) p d) ≡ h .n
-  unfolding reached markedFirst markedNext
-  length-reached zero = length-table (h .n) (markedFirst h out)
-  length-reached (suc d) = length-table (h .n) (markedNext h R out p (reached h R (otherThan out) p d))
+  unfolding reached
+  length-reached zero = length-table (h .n) (markedFirst h (otherThan out))
+  length-reached (suc d) = length-table (h .n) (markedNext h R (otherThan out) p (reached h R (otherThan out) p d))
 
   length-marks : (d : ℕ) → h .n ≤ 128 → length (marksAfter d) ≡ 128
   unfolding marksAfter
@@ -107,9 +98,9 @@ module _ (h : Header) (R : List ℕ) (out : ℕ) (p : Permission) where
       (d : ℕ) →
       h .n ≤ 128 →
       d ≤ h .n →
-      sameMarks (padded false (marking h R out p (marksAfter d))) (marksAfter d) ≡ true →
+      sameMarks (padded false (marking h R (otherThan out) p (marksAfter d))) (marksAfter d) ≡ true →
       marksAfter d ≡ marksAfter (h .n)
   marks-rest d small l e =
       sym
-      (stays (λ marks. padded false (marking h R out p marks)) marksAfter marks-step d (h .n) l
+      (stays (λ marks. padded false (marking h R (otherThan out) p marks)) marksAfter marks-step d (h .n) l
       (same-marks (marksAfter (suc d)) (marksAfter d) (length-marks (suc d) small) (length-marks d small) (rw marks-step e)))

@@ -1,3 +1,3 @@
 -- What the contracts of levels cite beside the definitions of document 01.
-pub mod Round
+pub mod Marks
 pub mod Padded

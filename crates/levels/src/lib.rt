@@ -8,8 +8,8 @@ ghost use Prim.Native.Nat.{_≤_, _<_};
 ghost use Rattle.rights.specs.Below.{table};
 ghost use Rattle.rights.specs.Permission.{decoded};
 ghost use Rattle.rights.specs.Register.{soaOf};
-ghost use Rattle.rights.specs.Level.{linked as linkedTo, reached as reachedBy, otherThan, independentLevels};
-ghost use Rattle.levels.specs.Round.{linkedBy, markedFirst, markedNext, marking, sameMarks, levelBy};
+ghost use Rattle.rights.specs.Level.{linkedBy, linked as linkedTo, markedFirst, markedNext, marking, reached as reachedBy, otherThan, independentLevels, levelBy};
+ghost use Rattle.levels.specs.Marks.{sameMarks};
 ghost use Rattle.levels.specs.Padded.{padded, paddedLevels, paddedIndependent};
 
 // Whether x is marked and its link to y carries the permission: a grantor that is not marked passes nothing on.
@@ -49,7 +49,7 @@ fn marked_next(
     y: u16,
 ) -> bool
     requires { ⌜ (header .n ≤ 128) × (y < 128) ⌝ }
-    ensures { λ r. ⌜ r ≡ markedNext header (now (cells .entry)) out (decoded perm) (now (marks .entry)) y ⌝ }
+    ensures { λ r. ⌜ r ≡ markedNext header (now (cells .entry)) (otherThan out) (decoded perm) (now (marks .entry)) y ⌝ }
 {
     if marks[y as usize] {
         return true;
@@ -63,7 +63,7 @@ fn marked_next(
 // One round. It reads the marks as they were before it, so the new ones are an array of their own.
 fn round(cells: &[u8], header: Header, out: u16, perm: u8, marks: &[bool; 128]) -> [bool; 128]
     requires { ⌜ header .n ≤ 128 ⌝ }
-    ensures { λ r. ⌜ r ≡ padded false (marking header (now (cells .entry)) out (decoded perm) (now (marks .entry))) ⌝ }
+    ensures { λ r. ⌜ r ≡ padded false (marking header (now (cells .entry)) (otherThan out) (decoded perm) (now (marks .entry))) ⌝ }
 {
     let n = header.n;
     let mut next = [false; 128];
@@ -78,7 +78,7 @@ fn round(cells: &[u8], header: Header, out: u16, perm: u8, marks: &[bool; 128]) 
 // The marks before the first round: SOA alone, or nobody where SOA is left out.
 fn first(header: Header, out: u16) -> [bool; 128]
     requires { ⌜ (header .n ≤ 128) × (soaOf header < header .n) ⌝ }
-    ensures { λ r. ⌜ r ≡ padded false (table (header .n) (markedFirst header out)) ⌝ }
+    ensures { λ r. ⌜ r ≡ padded false (table (header .n) (markedFirst header (otherThan out))) ⌝ }
 {
     let mut marks = [false; 128];
     let soa = header.soa.0;

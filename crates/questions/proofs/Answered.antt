@@ -12,10 +12,10 @@ use Rattle.rights.specs.Permission.{Permission, decoded}
 use Rattle.rights.specs.Register.{soaOf}
 use Rattle.rights.specs.Level.{holds}
 use Rattle.rights.specs.Sound.{firstOf, unless, registerRefusal}
-use Rattle.rights.specs.Question.{Answer, single, fewestLinks, smallest, pickedChain, shown, notShown, answered}
+use Rattle.rights.specs.Question.{Answer, single, fewestLinks, smallest, pickedChain, shown, notShown, answered, fewestInto}
 use Rattle.theory.proofs.Picked.{picked-length, fewest-test}
 use Rattle.levels.specs.Padded.{padded}
-use Rattle.questions.specs.Step.{fewestInto, formRefusal, searched, outcomeOf}
+use Rattle.questions.specs.Step.{formRefusal, searched, outcomeOf}
 use Rattle.questions.proofs.Refusals.{in-order}
 use Rattle.questions.proofs.Sets.{smallest-padded, fewest-padded}
 

@@ -9,12 +9,11 @@ use Rattle.rights.specs.Below.{anyBelow, firstBelow, table}
 use Rattle.rights.specs.Permission.{Permission, passing}
 use Rattle.rights.specs.Register.{soaOf}
 use Rattle.rights.specs.Level.{isIn}
-use Rattle.rights.specs.Question.{single, nearer, linksAway, fewestLinks, lastOf, smallest}
+use Rattle.rights.specs.Question.{single, nearer, linksAway, fewestLinks, lastOf, smallest, linkInto, soaAway, fewestInto}
 use Rattle.theory.proofs.Below.{any-ext, table-ext}
 use Rattle.theory.proofs.Smallest.{away-one, away-more}
 use Rattle.levels.specs.Padded.{padded}
 use Rattle.levels.proofs.Rounds.{in-padded}
-use Rattle.questions.specs.Step.{linkInto, soaAway, fewestInto}
 use Rattle.questions.proofs.First.{first-any, first-ext}
 
 -- x has a link into the set that carries p: it is one link nearer SOA than the set
@@ -30,7 +29,7 @@ readingAt p (suc d) = passing p
 module _ (h : Header) (R : List ℕ) where
   -- the offices one link nearer SOA are those that have a link into the set
   pub nearer-leads : (p : Permission) (set : List Bool) → nearer h R p set ≡ table (h .n) (leads h R p set)
-  unfolding nearer leads linkInto
+  unfolding nearer leads
   nearer-leads p set = refl
 
   -- which is whether there is a first office that they have a link to
@@ -45,7 +44,6 @@ module _ (h : Header) (R : List ℕ) where
   away-next (suc d) p set = away-more h R d p set
 
   link-ext : (p : Permission) (A B : List Bool) → ((y : ℕ) → isIn A y ≡ isIn B y) → (x y : ℕ) → linkInto h R p A x y ≡ linkInto h R p B x y
-  unfolding linkInto
   link-ext p A B e x y = rw (e y)
 
   -- sets of the same offices are one link nearer SOA by the same offices
@@ -58,7 +56,7 @@ module _ (h : Header) (R : List ℕ) where
 
   -- and the smallest list into them is the same
   smallest-ext : (d : ℕ) (p : Permission) (A B : List Bool) → ((y : ℕ) → isIn A y ≡ isIn B y) → smallest h R p d A ≡ smallest h R p d B
-  unfolding smallest linkInto
+  unfolding smallest
   smallest-ext zero p A B e = refl
   smallest-ext (suc d) p A B e =
       rw (nearer-ext p A B e)
@@ -89,7 +87,7 @@ module _ (h : Header) (R : List ℕ) where
 
   -- the fewest links into a set made up to 128
   pub fewest-padded : (p : Permission) (j : ℕ) → fewestInto h R p (padded false (single h j)) ≡ fewestLinks h R p j
-  unfolding fewestInto fewestLinks soaAway
+  unfolding fewestLinks
   fewest-padded p j =
       first-ext (suc (h .n)) (soaAway h R p (padded false (single h j))) (soaAway h R p (single h j))
       (λ d l. away-padded d p (single h j) (soaOf h))

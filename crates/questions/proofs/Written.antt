@@ -11,10 +11,9 @@ use Rattle.rights.specs.declared.Header.{Header}
 use Rattle.rights.specs.Below.{firstBelow}
 use Rattle.rights.specs.Permission.{Permission, passing}
 use Rattle.rights.specs.Register.{soaOf}
-use Rattle.rights.specs.Question.{nearer, lastOf, smallest}
+use Rattle.rights.specs.Question.{nearer, lastOf, smallest, linkInto}
 use Rattle.theory.proofs.Smallest.{smallest-length, smallest-last}
 use Rattle.levels.specs.Padded.{padded}
-use Rattle.questions.specs.Step.{linkInto}
 use Rattle.questions.proofs.Sets.{smallest-padded}
 
 -- a store after the first offices adds one to them
@@ -46,7 +45,7 @@ module _ (h : Header) (R : List ℕ) (p : Permission) (offices : List Bool) wher
       x ≡ firstBelow (h .n) (linkInto h R p offices before) →
       written ≡ set earlier links x →
       (x ≡ lastOf (smallest h R p links offices)) × (written ≡ smallest h R p links offices ++ drop (links + 1) buffer)
-  unfolding smallest linkInto
+  unfolding smallest
   written-next zero reading near before x buffer earlier written some l r n b e f w = absurd (not-suc-le-zero some)
   written-next (suc d) reading near before x buffer earlier written some l r n b e f w =
       let chain = smallest h R (passing p) d (nearer h R p offices) in

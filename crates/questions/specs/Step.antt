@@ -1,28 +1,13 @@
 -- The holding question in the steps in which the code takes it.
-use Prim.Native.Nat.{ℕ, suc}
-use mathlib.Core.Bool.{Bool, _&&_, cond}
+use Prim.Native.Nat.{ℕ}
+use mathlib.Core.Bool.{cond}
 use mathlib.Core.List.{List}
 use lib.Dec.{ltb, leb}
 use Rattle.rights.specs.declared.Header.{Header}
-use Rattle.rights.specs.Below.{firstBelow}
 use Rattle.rights.specs.Permission.{Permission, isCode}
-use Rattle.rights.specs.Cell.{carries}
-use Rattle.rights.specs.Register.{cell, soaOf}
-use Rattle.rights.specs.Level.{isIn, holds}
+use Rattle.rights.specs.Level.{holds}
 use Rattle.rights.specs.Sound.{firstOf, unless}
-use Rattle.rights.specs.Question.{Answer, linksAway, pickedChain, shown, notShown}
-
--- y is in the set, and x has a link to it that carries p
-unfoldable pub linkInto : Header → List ℕ → Permission → List Bool → ℕ → ℕ → Bool
-linkInto h R p set x y = isIn set y && carries (cell h R x y) p
-
--- SOA is so many links away from the set
-unfoldable pub soaAway : Header → List ℕ → Permission → List Bool → ℕ → Bool
-soaAway h R p set d = isIn (linksAway h R p d set) (soaOf h)
-
--- the fewest links from SOA into the set; more than n where there are none
-unfoldable pub fewestInto : Header → List ℕ → Permission → List Bool → ℕ
-fewestInto h R p set = firstBelow (suc (h .n)) (soaAway h R p set)
+use Rattle.rights.specs.Question.{Answer, pickedChain, shown, notShown}
 
 -- refusals 4, 6 and 11, which read the header and the question alone
 unfoldable pub formRefusal : Header → ℕ → ℕ → ℕ → ℕ

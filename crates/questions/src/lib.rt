@@ -10,9 +10,9 @@ ghost use lib.ListN.{length, drop, set as setAt};
 ghost use Rattle.rights.specs.Below.{firstBelow};
 ghost use Rattle.rights.specs.Permission.{decoded, passing};
 ghost use Rattle.rights.specs.Register.{soaOf};
-ghost use Rattle.rights.specs.Question.{single as setOfOne, nearer as nearerSoa, lastOf, smallest, answered};
+ghost use Rattle.rights.specs.Question.{single as setOfOne, nearer as nearerSoa, lastOf, smallest, answered, linkInto, fewestInto};
 ghost use Rattle.levels.specs.Padded.{padded};
-ghost use Rattle.questions.specs.Step.{linkInto, fewestInto, formRefusal, searched, outcomeOf};
+ghost use Rattle.questions.specs.Step.{formRefusal, searched, outcomeOf};
 
 // What a question answers: 0 or the refusal, and of how many offices the chain is, 0 where it is refused.
 #[repr(C)]

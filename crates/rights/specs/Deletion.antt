@@ -46,20 +46,32 @@ columnStep h R i j = restricted h R (columnsTo (eqb j) (independentLevels h R i)
 unfoldable pub sld : Header → List ℕ → ℕ → ℕ → List ℕ
 sld h R i j = rowSettled h R (columnStep h R i j) i j
 
+-- office y holds p in R by the levels before, and not in S by the levels now
+abbrev pub losesOne : Header → List ℕ → List ℕ → List ℕ → List ℕ → ℕ → Permission → Bool
+losesOne h R before S now y p = holdsBy h R before p y && not (holdsBy h S now p y)
+
+-- office y holds fewer permissions now
+abbrev pub loses : Header → List ℕ → List ℕ → List ℕ → List ℕ → ℕ → Bool
+loses h R before S now y = anyPermission (losesOne h R before S now y)
+
 -- the offices that hold fewer permissions in S than in R
 unfoldable pub losers : Header → List ℕ → List ℕ → List Bool
 losers h R S =
     let before = levels h R in
     let now = levels h S in
-    table (h .n) (λ y. anyPermission (λ p. holdsBy h R before p y && not (holdsBy h S now p y)))
+    table (h .n) (loses h R before S now)
 
 -- 'for each office that now holds fewer permissions than before, restrict its column to the independent levels; sweep'
 unfoldable pub strongRound : Header → List ℕ → List ℕ → List ℕ → List ℕ
 strongRound h R independent S = sweep h (restricted h S (columnsTo (isIn (losers h R S)) independent))
 
+-- the two registers have the same cell of grantor i and subject j
+abbrev pub sameCell : Header → List ℕ → List ℕ → ℕ → ℕ → Bool
+sameCell h R S i j = eqb (cell h R i j) (cell h S i j)
+
 -- the two registers have the same cells
 unfoldable pub same : Header → List ℕ → List ℕ → Bool
-same h R S = allBelow (h .n) (λ i. allBelow (h .n) (λ j. eqb (cell h R i j) (cell h S i j)))
+same h R S = allBelow (h .n) (λ i. allBelow (h .n) (sameCell h R S i))
 
 -- 'Stop when a round alters nothing.' At most so many rounds; that n rounds are enough is a law.
 unfoldable pub untilRest : Header → List ℕ → List ℕ → ℕ → List ℕ → List ℕ

@@ -16,18 +16,30 @@ use Rattle.rights.specs.Sound.{firstOf, unless, registerRefusal}
 unfoldable pub single : Header → ℕ → List Bool
 single h j = table (h .n) (eqb j)
 
+-- y is in the set, and the link of x to it carries p
+abbrev pub linkInto : Header → List ℕ → Permission → List Bool → ℕ → ℕ → Bool
+linkInto h R p set x y = isIn set y && carries (cell h R x y) p
+
 -- the offices with a link, read as p, into the set: one link nearer SOA
 unfoldable pub nearer : Header → List ℕ → Permission → List Bool → List Bool
-nearer h R p set = table (h .n) (λ x. anyBelow (h .n) (λ y. isIn set y && carries (cell h R x y) p))
+nearer h R p set = table (h .n) (λ x. anyBelow (h .n) (linkInto h R p set x))
 
 -- the offices from which so many links, the last read as p and each earlier one as what passes p on, lead into the set
 unfoldable pub linksAway : Header → List ℕ → Permission → ℕ → List Bool → List Bool
 linksAway h R p zero set = set
 linksAway h R p (suc d) set = linksAway h R (passing p) d (nearer h R p set)
 
--- the fewest links of a chain for p at j; more than n where there is none
+-- SOA is so many links away from the set
+abbrev pub soaAway : Header → List ℕ → Permission → List Bool → ℕ → Bool
+soaAway h R p set d = isIn (linksAway h R p d set) (soaOf h)
+
+-- the fewest links from SOA into the set; more than n where there are none
+abbrev pub fewestInto : Header → List ℕ → Permission → List Bool → ℕ
+fewestInto h R p set = firstBelow (suc (h .n)) (soaAway h R p set)
+
+-- the fewest links of a chain for p at j
 unfoldable pub fewestLinks : Header → List ℕ → Permission → ℕ → ℕ
-fewestLinks h R p j = firstBelow (suc (h .n)) (λ d. isIn (linksAway h R p d (single h j)) (soaOf h))
+fewestLinks h R p j = fewestInto h R p (single h j)
 
 -- the last office of a chain
 unfoldable pub lastOf : List ℕ → ℕ
@@ -41,7 +53,7 @@ unfoldable pub smallest : Header → List ℕ → Permission → ℕ → List Bo
 smallest h R p zero set = soaOf h ∷ []
 smallest h R p (suc d) set =
     let earlier = smallest h R (passing p) d (nearer h R p set) in
-    earlier ++ (firstBelow (h .n) (λ y. isIn set y && carries (cell h R (lastOf earlier) y) p) ∷ [])
+    earlier ++ (firstBelow (h .n) (linkInto h R p set (lastOf earlier)) ∷ [])
 
 -- 'the chain with fewest links, among those the smallest list compared from SOA on'
 unfoldable pub pickedChain : Header → List ℕ → Permission → ℕ → List ℕ

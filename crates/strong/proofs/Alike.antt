@@ -9,19 +9,16 @@ use borrow.Author.Tests.{eqb-true, eq-eqb, ne-eqb}
 use Rattle.rights.specs.declared.Header.{Header}
 use Rattle.rights.specs.Below.{allBelow}
 use Rattle.rights.specs.Register.{cell}
-use Rattle.rights.specs.Deletion.{same}
+use Rattle.rights.specs.Deletion.{same, sameCell}
 use Rattle.theory.proofs.Below.{all-at}
 use Rattle.theory.proofs.Register.{same-cells}
-use Rattle.strong.specs.Same.{sameCell}
 
 module _ (h : Header) (R S : List ℕ) where
   -- two cells that were read
   pub cell-same : (i j : ℕ) {a b : ℕ} → a ≡ cell h R i j → b ≡ cell h S i j → a ≡ b → sameCell h R S i j ≡ true
-  unfolding sameCell
   cell-same i j p q e = eq-eqb (cell h R i j) (cell h S i j) (sym p ∙ e ∙ q)
 
   pub cell-differs : (i j : ℕ) {a b : ℕ} → a ≡ cell h R i j → b ≡ cell h S i j → (a ≡ b → ⊥) → sameCell h R S i j ≡ false
-  unfolding sameCell
   cell-differs i j p q ne = ne-eqb (cell h R i j) (cell h S i j) (λ e. ne (p ∙ e ∙ sym q))
 
   -- row i has the same cells in both

@@ -11,7 +11,7 @@ use Rattle.rights.specs.Below.{table}
 use Rattle.rights.specs.Sound.{readable}
 use Rattle.rights.specs.Level.{isIn, levelIn, levels, independentLevels}
 use Rattle.rights.specs.Restriction.{restricted, columnsTo, sweep}
-use Rattle.rights.specs.Deletion.{losers, strongRound, columnStep, untilRest, sgd}
+use Rattle.rights.specs.Deletion.{losers, strongRound, columnStep, untilRest, sgd, loses}
 use Rattle.theory.proofs.Tests.{both}
 use Rattle.theory.proofs.Below.{table-at}
 use Rattle.theory.proofs.Restriction.{length-restricted, restricted-ext}
@@ -19,7 +19,7 @@ use Rattle.theory.proofs.Sweep.{length-sweep}
 use Rattle.levels.specs.Padded.{padded, paddedIndependent}
 use Rattle.levels.proofs.Padded.{getD-padded}
 use Rattle.levels.proofs.Given.{independent-read}
-use Rattle.holdings.specs.Loser.{losesOne, loses, markBy, paddedLosers}
+use Rattle.holdings.specs.Loser.{markBy, paddedLosers}
 use Rattle.rows.specs.Whole.{ifWhole}
 use Rattle.rows.proofs.Guard.{in-whole}
 use Rattle.columns.specs.Marked.{isMarked}
@@ -36,7 +36,7 @@ mark-tells false = refl
 module _ (h : Header) (R S : List ℕ) (r : readable h R ≡ true) (s : readable h S ≡ true) where
   -- whoever has lost is marked
   lost-marked : (y : ℕ) → y < h .n → isMarked (paddedLosers h R S) y ≡ isIn (losers h R S) y
-  unfolding isMarked paddedLosers markBy loses losesOne losers isIn
+  unfolding isMarked paddedLosers markBy losers isIn
   lost-marked y l =
       let marks = table (h .n) (markBy h R (levels h R) S (levels h S)) in
       let kept : paddedLosers h R S ≡ padded 0 marks = rw (both r s) in

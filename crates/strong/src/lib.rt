@@ -4,10 +4,9 @@ use rights::Office;
 ghost use mathlib.Core.Path.{_≡_};
 ghost use mathlib.Core.Bool.{true};
 ghost use Rattle.rights.specs.Below.{allBelow};
-ghost use Rattle.rights.specs.Deletion.{same as sameCells, strongRound, untilRest, sgd as strongGlobal};
+ghost use Rattle.rights.specs.Deletion.{same as sameCells, strongRound, untilRest, sgd as strongGlobal, sameCell};
 ghost use Rattle.rights.specs.Sound.{readable};
 ghost use Rattle.rows.specs.Whole.{ifWhole};
-ghost use Rattle.strong.specs.Same.{sameCell};
 
 // Whether row i of the two registers has the same cells.
 fn same_row(a: &[u8], b: &[u8], header: Header, i: u16) -> bool

@@ -13,7 +13,7 @@ use Rattle.rights.specs.Below.{table}
 use Rattle.rights.specs.Permission.{Permission, TT, TF, need, passing}
 use Rattle.rights.specs.Cell.{carries}
 use Rattle.rights.specs.Register.{cell, soaOf}
-use Rattle.rights.specs.Level.{isIn, linked, reached, levelsAmong, levelIn}
+use Rattle.rights.specs.Level.{isIn, linked, reached, levelsAmong, levelIn, linkedBy, markedFirst, markedNext, marking}
 use Rattle.theory.proofs.Tests.{both, left-of, right-of, or-left, or-right, either, decided, clash}
 use Rattle.theory.proofs.Below.{any-from, any-found, any-ext, table-at, length-table, table-ext}
 use Rattle.theory.proofs.Growth.{marked-most, settled, stays}
@@ -41,7 +41,7 @@ pub record LinkedFrom (h : Header) (R : List ℕ) (p : Permission) (set : List B
 pub linked-from : (h : Header) (R : List ℕ) (p : Permission) (set : List Bool) (y : ℕ) → linked h R p set y ≡ true → LinkedFrom h R p set y
 unfolding linked linkOf
 linked-from h R p set y e =
-    let r = any-found (h .n) (λ x. isIn set x && carries (cell h R x y) p) e in
+    let r = any-found (h .n) (linkedBy h R p set y) e in
     let x = r .at in
     record {
       at = x;
@@ -50,20 +50,16 @@ linked-from h R p set y e =
     }
 
 module _ (h : Header) (R : List ℕ) (allowed : ℕ → Bool) (p : Permission) where
-  -- one round
-  marking : List Bool → List Bool
-  marking set = table (h .n) (λ y. isIn set y || allowed y && linked h R p set y)
-
   pub reached-below : (d y : ℕ) → isIn (reached h R allowed p d) y ≡ true → y < h .n
   unfolding reached
-  reached-below zero y e = in-table-below (h .n) (λ y. eqb y (soaOf h) && allowed y) y e
+  reached-below zero y e = in-table-below (h .n) (markedFirst h allowed) y e
   reached-below (suc d) y e =
-      in-table-below (h .n) (λ y. isIn (reached h R allowed p d) y || allowed y && linked h R p (reached h R allowed p d) y) y e
+      in-table-below (h .n) (markedNext h R allowed p (reached h R allowed p d)) y e
 
   -- what is marked at first
   reached-first : (y : ℕ) → y < h .n → isIn (reached h R allowed p 0) y ≡ eqb y (soaOf h) && allowed y
   unfolding reached
-  reached-first y l = in-table (h .n) (λ y. eqb y (soaOf h) && allowed y) y l
+  reached-first y l = in-table (h .n) (markedFirst h allowed) y l
 
   -- what a round marks
   pub reached-next :
@@ -72,25 +68,23 @@ module _ (h : Header) (R : List ℕ) (allowed : ℕ → Bool) (p : Permission) w
       isIn (reached h R allowed p (suc d)) y ≡ isIn (reached h R allowed p d) y || allowed y && linked h R p (reached h R allowed p d) y
   unfolding reached
   reached-next d y l =
-      in-table (h .n) (λ y. isIn (reached h R allowed p d) y || allowed y && linked h R p (reached h R allowed p d) y) y l
+      in-table (h .n) (markedNext h R allowed p (reached h R allowed p d)) y l
 
   -- a round only adds
   pub reached-adds : (d y : ℕ) → y < h .n → isIn (reached h R allowed p d) y ≡ true → isIn (reached h R allowed p (suc d)) y ≡ true
   reached-adds d y l e = rw reached-next (or-left (allowed y && linked h R p (reached h R allowed p d) y) e)
 
   -- a round marks by what is marked below n alone
-  marking-ext : (A B : List Bool) → ((y : ℕ) → y < h .n → isIn A y ≡ isIn B y) → marking A ≡ marking B
-  unfolding marking linked
+  pub marking-ext : (A B : List Bool) → ((y : ℕ) → y < h .n → isIn A y ≡ isIn B y) → marking h R allowed p A ≡ marking h R allowed p B
+  unfolding linked
   marking-ext A B e =
-      table-ext (h .n)
-      (λ y. isIn A y || allowed y && linked h R p A y)
-      (λ y. isIn B y || allowed y && linked h R p B y)
+      table-ext (h .n) (markedNext h R allowed p A) (markedNext h R allowed p B)
       (λ y l. ap₂ (λ (a b : Bool). a || allowed y && b) (e y l)
-      (any-ext (h .n) (λ x. isIn A x && carries (cell h R x y) p) (λ x. isIn B x && carries (cell h R x y) p)
+      (any-ext (h .n) (linkedBy h R p A y) (linkedBy h R p B y)
       (λ x m. ap (λ (a : Bool). a && carries (cell h R x y) p) (e x m))))
 
-  reached-marking : (d : ℕ) → reached h R allowed p (suc d) ≡ marking (reached h R allowed p d)
-  unfolding reached marking
+  reached-marking : (d : ℕ) → reached h R allowed p (suc d) ≡ marking h R allowed p (reached h R allowed p d)
+  unfolding reached
   reached-marking d = refl
 
   -- where a round adds nothing, no later round does
@@ -99,7 +93,7 @@ module _ (h : Header) (R : List ℕ) (allowed : ℕ → Bool) (p : Permission) w
       d ≤ e →
       reached h R allowed p (suc d) ≡ reached h R allowed p d →
       reached h R allowed p e ≡ reached h R allowed p d
-  reached-rests = stays marking (reached h R allowed p) reached-marking
+  reached-rests = stays (marking h R allowed p) (reached h R allowed p) reached-marking
 
   -- n rounds are enough
   pub reached-settled : (y : ℕ) → y < h .n → isIn (reached h R allowed p (suc (h .n))) y ≡ isIn (reached h R allowed p (h .n)) y

@@ -16,13 +16,13 @@ use Rattle.rights.specs.Register.{soaOf}
 use Rattle.rights.specs.Chain.{RootedChain, Holds}
 use Rattle.rights.specs.Order.{smallerOrSame, Picked}
 use Rattle.rights.specs.Level.{holds}
-use Rattle.rights.specs.Question.{single, fewestLinks, pickedChain}
+use Rattle.rights.specs.Question.{single, fewestLinks, pickedChain, soaAway}
 use Rattle.theory.proofs.Tests.{decided, same-test}
 use Rattle.theory.proofs.Below.{any-from, first-at, first-below, first-least, first-none}
 use Rattle.theory.proofs.Chain.{holds-chain}
 use Rattle.theory.proofs.Order.{order-antisymmetric}
 use Rattle.theory.proofs.Walk.{Walk, walk-length, walk-chain, chain-walk, walk-offices}
-use Rattle.theory.proofs.Smallest.{counted, smallest-length, walk-counts, counts-walk, counts-least}
+use Rattle.theory.proofs.Smallest.{smallest-length, walk-counts, counts-walk, counts-least}
 use Rattle.theory.proofs.Shortest.{NoShorter, shortest-few}
 
 -- no other chain is picked
@@ -47,30 +47,30 @@ module _ (h : Header) (R : List ℕ) (inside : soaOf h < h .n) where
   -- the first number of links that counts is the fewest
   first-shortest :
       (p : Permission) (j m : ℕ) →
-      anyBelow (suc m) (counted h R p j) ≡ true →
-      NoShorter h R p (firstBelow (suc m) (counted h R p j)) j
+      anyBelow (suc m) (soaAway h R p (single h j)) ≡ true →
+      NoShorter h R p (firstBelow (suc m) (soaAway h R p (single h j))) j
   first-shortest p j m e k others w =
       ⊎-elim
-      (λ t. first-least (suc m) (counted h R p j) k (ltb-true k (suc m) t) (walk-counts h R inside w))
-      (λ t. omega (arith, first-below (suc m) (counted h R p j) e, ltb-false k (suc m) t))
+      (λ t. first-least (suc m) (soaAway h R p (single h j)) k (ltb-true k (suc m) t) (walk-counts h R inside w))
+      (λ t. omega (arith, first-below (suc m) (soaAway h R p (single h j)) e, ltb-false k (suc m) t))
       (decided (ltb k (suc m)))
 
   -- where there is a walk, the fewest links are fewer than the offices, and no more than the walk's
   walk-fewest : {p : Permission} {m j : ℕ} {offices : List ℕ} → Walk h R p m offices j → fewestLinks h R p j < h .n
   unfolding fewestLinks
   walk-fewest {p} {m} {j} w =
-      let counts = any-from (suc m) (counted h R p j) m (omega arith) (walk-counts h R inside w) in
-      let d = firstBelow (suc m) (counted h R p j) in
-      let at = first-at (suc m) (counted h R p j) counts in
+      let counts = any-from (suc m) (soaAway h R p (single h j)) m (omega arith) (walk-counts h R inside w) in
+      let d = firstBelow (suc m) (soaAway h R p (single h j)) in
+      let at = first-at (suc m) (soaAway h R p (single h j)) counts in
       let few = shortest-few h R inside (counts-walk h R inside d p j at) (first-shortest p j m counts) in
-      let least = first-least (suc (h .n)) (counted h R p j) d (omega arith) at in
+      let least = first-least (suc (h .n)) (soaAway h R p (single h j)) d (omega arith) at in
       omega arith
 
   fewest-least : {p : Permission} {m j : ℕ} {offices : List ℕ} → Walk h R p m offices j → fewestLinks h R p j ≤ m
   unfolding fewestLinks
   fewest-least {p} {m} {j} w =
       ⊎-elim
-      (λ t. first-least (suc (h .n)) (counted h R p j) m (ltb-true m (suc (h .n)) t) (walk-counts h R inside w))
+      (λ t. first-least (suc (h .n)) (soaAway h R p (single h j)) m (ltb-true m (suc (h .n)) t) (walk-counts h R inside w))
       (λ t. omega (arith, walk-fewest w, ltb-false m (suc (h .n)) t))
       (decided (ltb m (suc (h .n))))
 
@@ -79,9 +79,9 @@ module _ (h : Header) (R : List ℕ) (inside : soaOf h < h .n) where
   unfolding fewestLinks pickedChain
   fewest-walk p j l =
       counts-walk h R inside (fewestLinks h R p j) p j
-      (⊎-elim (first-at (suc (h .n)) (counted h R p j))
-      (λ none. absurd (let m = first-none (suc (h .n)) (counted h R p j) none in omega arith))
-      (decided (anyBelow (suc (h .n)) (counted h R p j))))
+      (⊎-elim (first-at (suc (h .n)) (soaAway h R p (single h j)))
+      (λ none. absurd (let m = first-none (suc (h .n)) (soaAway h R p (single h j)) none in omega arith))
+      (decided (anyBelow (suc (h .n)) (soaAway h R p (single h j)))))
 
   -- the search finds fewer links than there are offices where j holds p, and more than n where it does not
   pub holds-fewest : (p : Permission) (j : ℕ) → Holds h R p j → fewestLinks h R p j < h .n

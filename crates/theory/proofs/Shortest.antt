@@ -11,13 +11,13 @@ use Rattle.rights.specs.declared.Header.{Header}
 use Rattle.rights.specs.Below.{anyBelow}
 use Rattle.rights.specs.Permission.{Permission, passing}
 use Rattle.rights.specs.Register.{soaOf}
-use Rattle.rights.specs.Question.{single, smallest}
+use Rattle.rights.specs.Question.{single, smallest, soaAway}
 use Rattle.theory.proofs.Tests.{decided, clash, fails}
 use Rattle.theory.proofs.Below.{any-from, any-found}
 use Rattle.theory.proofs.Growth.{marked, marked-same, marked-most}
 use Rattle.theory.proofs.Reading.{passing-serves}
 use Rattle.theory.proofs.Walk.{Walk, here, further, walk-weaker}
-use Rattle.theory.proofs.Smallest.{counted, walk-counts, counts-walk}
+use Rattle.theory.proofs.Smallest.{walk-counts, counts-walk}
 
 -- one mark more counts one more
 more-marked :
@@ -43,16 +43,16 @@ record Within (h : Header) (R : List ℕ) (p : Permission) (d j : ℕ) : Type 0 
 
 -- there is one
 abbrev within : Header → List ℕ → Permission → ℕ → ℕ → Bool
-within h R p d y = anyBelow (suc d) (counted h R p y)
+within h R p d y = anyBelow (suc d) (soaAway h R p (single h y))
 
 module _ (h : Header) (R : List ℕ) (inside : soaOf h < h .n) where
   walk-within : {p : Permission} {k y : ℕ} {offices : List ℕ} (d : ℕ) → k ≤ d → Walk h R p k offices y → within h R p d y ≡ true
-  walk-within {p} {k} {y} d l w = any-from (suc d) (counted h R p y) k (omega arith) (walk-counts h R inside w)
+  walk-within {p} {k} {y} d l w = any-from (suc d) (soaAway h R p (single h y)) k (omega arith) (walk-counts h R inside w)
 
   -- a walk for what passes p on is one for p
   within-walk : (p : Permission) (d y : ℕ) → within h R (passing p) d y ≡ true → Within h R p d y
   within-walk p d y e =
-      let found = any-found (suc d) (counted h R (passing p) y) e in
+      let found = any-found (suc d) (soaAway h R (passing p) (single h y)) e in
       record {
         links = found .at;
         few = omega arith;

@@ -15,21 +15,13 @@ use Rattle.rights.specs.Cell.{carries}
 use Rattle.rights.specs.Register.{cell, soaOf}
 use Rattle.rights.specs.Order.{smallerOrSame}
 use Rattle.rights.specs.Level.{isIn}
-use Rattle.rights.specs.Question.{single, nearer, linksAway, lastOf, smallest}
+use Rattle.rights.specs.Question.{single, nearer, linksAway, lastOf, smallest, linkInto, soaAway}
 use Rattle.theory.proofs.Tests.{both, left-of, right-of}
 use Rattle.theory.proofs.Below.{any-from, first-at, first-below, first-least}
 use Rattle.theory.proofs.Level.{in-table, in-table-below}
 use Rattle.theory.proofs.Reading.{passing-passing}
 use Rattle.theory.proofs.Order.{order-same, order-append}
 use Rattle.theory.proofs.Walk.{Walk, here, further, walk-length, walk-inside, walk-last, last-append}
-
--- y is in the set, and x has a link to it that carries p
-abbrev stepTo : Header → List ℕ → Permission → List Bool → ℕ → ℕ → Bool
-stepTo h R p set x y = isIn set y && carries (cell h R x y) p
-
--- SOA is so many links away from j
-abbrev pub counted : Header → List ℕ → Permission → ℕ → ℕ → Bool
-counted h R p j d = isIn (linksAway h R p d (single h j)) (soaOf h)
 
 -- a walk over the offices of the smallest list, into the set
 pub record Leads (h : Header) (R : List ℕ) (p : Permission) (d : ℕ) (set : List Bool) : Type 0 where
@@ -63,19 +55,19 @@ module _ (h : Header) (R : List ℕ) where
 
 module _ (h : Header) (R : List ℕ) (inside : soaOf h < h .n) where
   -- an office is nearer SOA than the set exactly where it has a link into the set
-  nearer-step : (p : Permission) (set : List Bool) (x : ℕ) → isIn (nearer h R p set) x ≡ true → anyBelow (h .n) (stepTo h R p set x) ≡ true
+  nearer-step : (p : Permission) (set : List Bool) (x : ℕ) → isIn (nearer h R p set) x ≡ true → anyBelow (h .n) (linkInto h R p set x) ≡ true
   unfolding nearer
   nearer-step p set x e = sym (in-table (h .n) linking x (in-table-below (h .n) linking x e)) ∙ e
     where
       linking : ℕ → Bool
-      linking x = anyBelow (h .n) (stepTo h R p set x)
+      linking x = anyBelow (h .n) (linkInto h R p set x)
 
   step-nearer :
       (p : Permission) (set : List Bool) (x y : ℕ) →
       x < h .n → y < h .n → isIn set y ≡ true → carries (cell h R x y) p ≡ true → isIn (nearer h R p set) x ≡ true
   unfolding nearer
   step-nearer p set x y k l e c =
-      in-table (h .n) (λ x. anyBelow (h .n) (stepTo h R p set x)) x k ∙ any-from (h .n) (stepTo h R p set x) y l (both e c)
+      in-table (h .n) (λ x. anyBelow (h .n) (linkInto h R p set x)) x k ∙ any-from (h .n) (linkInto h R p set x) y l (both e c)
 
   -- a walk into the set comes from SOA, so many links away
   pub walk-away :
@@ -97,7 +89,7 @@ module _ (h : Header) (R : List ℕ) (inside : soaOf h < h .n) where
   smallest-walk (suc d) p set e =
       let earlier = smallest-walk d (passing p) (nearer h R p set) e in
       let x = lastOf (smallest h R (passing p) d (nearer h R p set)) in
-      let step = stepTo h R p set x in
+      let step = linkInto h R p set x in
       let found = nearer-step p set x (earlier .into) in
       let y = firstBelow (h .n) step in
       let passes = first-at (h .n) step found in
@@ -116,11 +108,11 @@ module _ (h : Header) (R : List ℕ) (inside : soaOf h < h .n) where
   smallest-least set (here p) e = order-same (soaOf h ∷ [])
   smallest-least set (further {offices} {i} {d} j p w l c) e =
       let earlier = smallest h R (passing p) d (nearer h R p set) in
-      let step = stepTo h R p set (lastOf earlier) in
+      let step = linkInto h R p set (lastOf earlier) in
       order-append earlier offices (firstBelow (h .n) step) j
       (smallest-length h R d (passing p) (nearer h R p set) ∙ sym (walk-length w))
       (smallest-least (nearer h R p set) w (step-nearer p set i j (walk-inside inside w) l e c))
-      (λ same. first-least (h .n) step j l (ap (λ (x : ℕ). stepTo h R p set x j) (ap lastOf same ∙ walk-last w) ∙ both e c))
+      (λ same. first-least (h .n) step j l (ap (λ (x : ℕ). linkInto h R p set x j) (ap lastOf same ∙ walk-last w) ∙ both e c))
 
   -- the set of one office
   in-single : (j y : ℕ) → isIn (single h j) y ≡ true → y ≡ j
@@ -132,10 +124,10 @@ module _ (h : Header) (R : List ℕ) (inside : soaOf h < h .n) where
   single-in j l = in-table (h .n) (eqb j) j l ∙ eq-eqb j j refl
 
   -- SOA is so many links away from j exactly where there is a walk of so many links to j
-  pub walk-counts : {p : Permission} {d j : ℕ} {offices : List ℕ} → Walk h R p d offices j → counted h R p j d ≡ true
+  pub walk-counts : {p : Permission} {d j : ℕ} {offices : List ℕ} → Walk h R p d offices j → soaAway h R p (single h j) d ≡ true
   walk-counts {j = j} w = walk-away (single h j) w (single-in j (walk-inside inside w))
 
-  pub counts-walk : (d : ℕ) (p : Permission) (j : ℕ) → counted h R p j d ≡ true → Walk h R p d (smallest h R p d (single h j)) j
+  pub counts-walk : (d : ℕ) (p : Permission) (j : ℕ) → soaAway h R p (single h j) d ≡ true → Walk h R p d (smallest h R p d (single h j)) j
   counts-walk d p j e =
       let leads = smallest-walk d p (single h j) e in
       let at = in-single j (lastOf (smallest h R p d (single h j))) (leads .into) in

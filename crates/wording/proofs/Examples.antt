@@ -3,8 +3,6 @@ use Prim.Native.Nat.{ℕ}
 use mathlib.Core.Path.{_≡_, refl}
 use mathlib.Core.List.{List, [], _∷_, _++_, map}
 use lib.ListN.{length, replicate}
-use Rattle.rights.specs.declared.Header.{Header}
-use Rattle.rights.specs.declared.Command.{Command}
 use Rattle.rights.specs.Below.{anyBelow, allBelow, table}
 use Rattle.rights.specs.Permission.{code, decoded, anyPermission, stronger, serves}
 use Rattle.rights.specs.Cell.{has, cellOf, carries, union, lowered, restrict}
@@ -13,6 +11,8 @@ use Rattle.rights.specs.Level.{isIn, linked, reached, levelsAmong, everyOffice,
 use Rattle.rights.specs.Sound.{headed, sound, soundBy, soundCell, barred, firstOf, unless}
 use Rattle.rights.specs.Restriction.{isCell}
 use Rattle.rights.specs.Deletion.{grantedCell, granted}
+use Rattle.rights.specs.Maps.{mapOf, mapC, headerOf as headerOn, drawn, bytesOf}
+use Rattle.rights.specs.Cases.{command, WGD}
 use Rattle.wording.specs.Word.{bytes, key, form, acts, perms, wordFor, endText}
 use Rattle.wording.specs.Line.{afterWord, isDigit, extended, goesOn, digits, number, chosen, valueOf, behindKey, lineOf, numeralBy, numeral, wordOf, lineText}
 use Rattle.wording.specs.Lines.{offset, andBefore, linesOf, linesText, headerLines, headerOf, headerValues, headerText, commandLines, commandOf, commandValues, commandText}
@@ -20,22 +20,13 @@ use Rattle.wording.specs.Records.{first, recordText, recordsText, byMay,
 use Rattle.wording.specs.RegisterReader.{withHeader, behindHeader, contentOf, anyRecord, outside, forbidden, nothing, added, filled, contentRefusal, RegisterRead, noHeader, registerDone, registerRefused, judged, registerRead}
 use Rattle.wording.specs.CommandReader.{commandJudged, commandRead, noCommand}
 
--- 01's map C: n=3, soa=0, layer=7, records 0→1, 1→2, 2→1 all TT
-abbrev mapC : List ℕ
-mapC = bytes "n=3\nsoa=0\nlayer=7\nby=0\nto=1\nperm=TT\nby=1\nto=2\nperm=TT\nby=2\nto=1\nperm=TT\nend=register\n"
+-- 01's input, which is map C
+abbrev mapText : List ℕ
+mapText = bytes "n=3\nsoa=0\nlayer=7\nby=0\nto=1\nperm=TT\nby=1\nto=2\nperm=TT\nby=2\nto=1\nperm=TT\nend=register\n"
 
 -- 01's command: wgd 7, 0, 1, none
 abbrev cut : List ℕ
 cut = bytes "act=wgd\nlayer=7\nby=0\nto=1\nperm=none\n"
-
-abbrev mapCHeader : Header
-mapCHeader = record { n = 3; soa = record { 0 = 0 }; layer = record { 0 = 7 } }
-
-abbrev mapCCells : List ℕ
-mapCCells = 0 ∷ 8 ∷ 0 ∷ 0 ∷ 0 ∷ 8 ∷ 0 ∷ 8 ∷ 0 ∷ []
-
-abbrev cutCommand : Command
-cutCommand = record { act = 2; layer = record { 0 = 7 }; by = record { 0 = 0 }; to = record { 0 = 1 }; perm = 0 }
 
 -- a text with the answer and the offset that it gets
 record Case : Type 0 where
@@ -88,12 +79,12 @@ bytes-of = refl
 -- the register of 01's input is read, with the command behind it left over, and written again; the command is read and written
 -- again; a command with a bad line is refused; the texts above are refused
 pub examples :
-    (registerRead (mapC ++ cut) (replicate 10 99) ≡
-    record { answer = 0; at = 0; header = mapCHeader; buffer = mapCCells ++ (0 ∷ []); next = length mapC; rest = cut }) ×
-    (registerText mapCHeader mapCCells ≡ mapC) ×
-    (commandRead cut ≡ record { answer = 0; at = 0; command = cutCommand; next = length cut; rest = [] }) ×
-    (commandText cutCommand ≡ cut) ×
-    (commandRead mapC ≡ record { answer = 13; at = 0; command = noCommand; next = length mapC; rest = [] }) ×
+    (registerRead (mapText ++ cut) (replicate 10 99) ≡
+    record { answer = 0; at = 0; header = headerOn mapC; buffer = bytesOf mapC ++ (0 ∷ []); next = length mapText; rest = cut }) ×
+    (registerText (headerOn mapC) (bytesOf mapC) ≡ mapText) ×
+    (commandRead cut ≡ record { answer = 0; at = 0; command = WGD 0 1; next = length cut; rest = [] }) ×
+    (commandText (WGD 0 1) ≡ cut) ×
+    (commandRead mapText ≡ record { answer = 13; at = 0; command = noCommand; next = length mapText; rest = [] }) ×
     (map readSo refusedTexts ≡ map refusedSo refusedTexts)
-unfolding anyBelow allBelow table code decoded anyPermission stronger serves has cellOf carries union lowered restrict cell register isIn linked reached levelsAmong everyOffice levels levelIn headed sound soundBy soundCell barred firstOf unless isCell grantedCell granted key form acts perms wordFor endText afterWord isDigit extended goesOn digits number chosen valueOf behindKey lineOf numeralBy numeral wordOf lineText offset andBefore linesOf linesText headerLines headerOf headerValues headerText commandLines commandOf commandValues commandText first recordText recordsText byMay toMay permMay withPerm withTo withBy recordFrom recordsFrom joined recordOf cellRecords rowRecords rowText registerText withHeader behindHeader contentOf anyRecord outside forbidden nothing added filled contentRefusal noHeader registerDone registerRefused judged registerRead commandJudged commandRead noCommand
+unfolding mapC mapOf headerOn bytesOf drawn WGD command anyBelow allBelow table code decoded anyPermission stronger serves has cellOf carries union lowered restrict cell register isIn linked reached levelsAmong everyOffice levels levelIn headed sound soundBy soundCell barred firstOf unless isCell grantedCell granted key form acts perms wordFor endText afterWord isDigit extended goesOn digits number chosen valueOf behindKey lineOf numeralBy numeral wordOf lineText offset andBefore linesOf linesText headerLines headerOf headerValues headerText commandLines commandOf commandValues commandText first recordText recordsText byMay toMay permMay withPerm withTo withBy recordFrom recordsFrom joined recordOf cellRecords rowRecords rowText registerText withHeader behindHeader contentOf anyRecord outside forbidden nothing added filled contentRefusal noHeader registerDone registerRefused judged registerRead commandJudged commandRead noCommand
 examples = (refl, refl, refl, refl, refl, refl)

@@ -8,11 +8,10 @@ use borrow.Author.Tests.{eq-eqb, ne-eqb}
 use borrow.Author.Needs.{needs}
 use Rattle.rights.specs.Below.{anyBelow}
 use Rattle.rights.specs.Permission.{decoded}
-use Rattle.rights.specs.Level.{holdsBy}
+use Rattle.rights.specs.Level.{holdsBy, passesOn}
 use Rattle.theory.proofs.Tests.{or-right}
 use Rattle.theory.proofs.Below.{any-from}
 use Rattle.levels.proofs.Loops.{none-more}
-use Rattle.holdings.specs.Loser.{passesOn}
 use Rattle.holdings.proofs.holds_by.Statement.{statement}
 use Rattle.holdings.proofs.holds_by.Tie as tie
 
@@ -34,7 +33,7 @@ passes-on-requires : tie.Need-passes-on-requires Inv-loop μ-loop
 passes-on-requires c κs = search needs
 
 returns-2 : tie.Need-returns-2 Inv-loop μ-loop
-unfolding holdsBy passesOn
+unfolding holdsBy
 returns-2 c =
     let a = c .before .before .before .before .before .before .before .args in
     sym
@@ -53,7 +52,7 @@ loop-again c =
     (omega arith, none-more _ _ (c .before .before .before .loop .inv .1) (sym (c .before .passes-on .ensures) ∙ c .if2 .left))
 
 returns-3 : tie.Need-returns-3 Inv-loop μ-loop
-unfolding holdsBy passesOn
+unfolding holdsBy
 returns-3 c =
     let a = c .before .before .before .before .before .args in
     let e : c .before .loop .x ≡ a .header .n = omega arith in

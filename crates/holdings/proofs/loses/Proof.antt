@@ -3,7 +3,6 @@ use mathlib.Core.Path.{sym, _∙_}
 use borrow.Author.Needs.{needs}
 use Rattle.rights.specs.Permission.{decoded, anyPermission}
 use Rattle.theory.proofs.Cell.{any-permission-from}
-use Rattle.holdings.specs.Loser.{loses}
 use Rattle.holdings.proofs.loses.Statement.{statement}
 use Rattle.holdings.proofs.loses.Tie as tie
 
@@ -11,28 +10,25 @@ loses-one-requires : tie.Need-loses-one-requires
 loses-one-requires c κs = search needs
 
 returns : tie.Need-returns
-unfolding loses
 returns c = sym (any-permission-from _ (decoded 8) (sym (c .before .loses-one .ensures) ∙ c .if1 .taken))
 
 loses-one-requires-2 : tie.Need-loses-one-requires-2
 loses-one-requires-2 c κs = search needs
 
 returns-2 : tie.Need-returns-2
-unfolding loses
 returns-2 c = sym (any-permission-from _ (decoded 4) (sym (c .before .loses-one2 .ensures) ∙ c .if2 .taken))
 
 loses-one-requires-3 : tie.Need-loses-one-requires-3
 loses-one-requires-3 c κs = search needs
 
 returns-3 : tie.Need-returns-3
-unfolding loses
 returns-3 c = sym (any-permission-from _ (decoded 2) (sym (c .before .loses-one3 .ensures) ∙ c .if3 .taken))
 
 loses-one-requires-4 : tie.Need-loses-one-requires-4
 loses-one-requires-4 c κs = search needs
 
 returns-4 : tie.Need-returns-4
-unfolding loses anyPermission decoded
+unfolding anyPermission decoded
 returns-4 c =
     rw (
       sym (c .before .before .loses-one3 .ensures) ∙ c .before .if3 .left,

@@ -2,7 +2,6 @@
 use mathlib.Core.Path.{sym, _∙_}
 use borrow.Author.Needs.{needs}
 use Rattle.rights.specs.Level.{levelIn}
-use Rattle.holdings.specs.Loser.{passesOn}
 use Rattle.holdings.proofs.passes_on.Statement.{statement}
 use Rattle.holdings.proofs.passes_on.Tie as tie
 
@@ -19,12 +18,12 @@ carries-requires : tie.Need-carries-requires
 carries-requires c κs = search needs
 
 returns : tie.Need-returns
-unfolding passesOn levelIn
+unfolding levelIn
 returns c =
     rw (sym (c .before .before .before .enough .ensures) ∙ c .before .before .if1 .taken, c .carries .ensures, c .before .cell .ensures)
 
 returns-2 : tie.Need-returns-2
-unfolding passesOn levelIn
+unfolding levelIn
 returns-2 c = rw (sym (c .before .enough .ensures) ∙ c .if1 .left)
 
 pub passes-on-spec : {M : Type 1} → statement M

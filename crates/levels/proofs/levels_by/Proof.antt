@@ -4,8 +4,7 @@ use native.Mathlib.Omega.{arith}
 use mathlib.Core.Path.{_≡_}
 use borrow.Author.Needs.{needs}
 use Rattle.rights.specs.Below.{table}
-use Rattle.rights.specs.Level.{isIn}
-use Rattle.levels.specs.Round.{levelBy}
+use Rattle.rights.specs.Level.{isIn, levelBy}
 use Rattle.levels.specs.Padded.{padded}
 use Rattle.levels.proofs.Padded.{padded-none, padded-more}
 use Rattle.levels.proofs.levels_by.Statement.{statement}
@@ -42,7 +41,7 @@ loop-less : tie.Need-loop-less Inv-loop μ-loop
 loop-less c = search needs
 
 loop-again : tie.Need-loop-again Inv-loop μ-loop
-unfolding levelBy isIn
+unfolding isIn
 loop-again c =
     let a = c .before .before .before .before .before .args in
     let l : c .before .before .before .before .loop .j < 128 = omega arith in

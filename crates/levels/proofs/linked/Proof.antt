@@ -6,9 +6,8 @@ use mathlib.Core.Bool.{false}
 use borrow.Author.Needs.{needs}
 use Rattle.rights.specs.Below.{anyBelow}
 use Rattle.rights.specs.Permission.{decoded}
-use Rattle.rights.specs.Level.{linked}
+use Rattle.rights.specs.Level.{linked, linkedBy}
 use Rattle.theory.proofs.Below.{any-from}
-use Rattle.levels.specs.Round.{linkedBy}
 use Rattle.levels.proofs.Loops.{none-more}
 use Rattle.levels.proofs.linked.Statement.{statement}
 use Rattle.levels.proofs.linked.Tie as tie
@@ -27,7 +26,7 @@ links-requires : tie.Need-links-requires Inv-loop μ-loop
 links-requires c κs = search needs
 
 returns : tie.Need-returns Inv-loop μ-loop
-unfolding linked linkedBy
+unfolding linked
 returns c =
     let l : c .before .before .before .loop .x < c .before .before .before .before .before .args .header .n = omega arith in
     sym (any-from _ _ _ l (rw (c .before .links .ensures) at (c .if1 .taken)))
@@ -43,7 +42,7 @@ loop-again c =
     (omega arith, none-more _ _ (c .before .before .before .loop .inv .1) (sym (c .before .links .ensures) ∙ c .if1 .left))
 
 returns-2 : tie.Need-returns-2 Inv-loop μ-loop
-unfolding linked linkedBy
+unfolding linked
 returns-2 c =
     let e : c .before .loop .x ≡ c .before .before .before .args .header .n = omega arith in
     sym (rw e at (c .before .loop .inv .1))

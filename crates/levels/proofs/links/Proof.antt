@@ -1,7 +1,6 @@
 -- `levels::links` meets its contract: a grantor that is not marked has no link that counts. Assumes nothing.
 use borrow.Author.Needs.{needs}
 use Rattle.rights.specs.Level.{isIn}
-use Rattle.levels.specs.Round.{linkedBy}
 use Rattle.levels.proofs.links.Statement.{statement}
 use Rattle.levels.proofs.links.Tie as tie
 
@@ -15,11 +14,11 @@ carries-requires : tie.Need-carries-requires
 carries-requires c κs = search needs
 
 returns : tie.Need-returns
-unfolding linkedBy isIn
+unfolding isIn
 returns c = rw (c .before .before .if1 .taken, c .carries .ensures, c .before .cell .ensures)
 
 returns-2 : tie.Need-returns-2
-unfolding linkedBy isIn
+unfolding isIn
 returns-2 c = rw (c .if1 .left)
 
 pub links-spec : {M : Type 1} → statement M

@@ -2,7 +2,6 @@
 use borrow.Author.Needs.{needs}
 use borrow.Author.Tests.{eq-eqb, ne-eqb}
 use Rattle.rights.specs.Level.{isIn, otherThan}
-use Rattle.levels.specs.Round.{markedNext}
 use Rattle.levels.proofs.marked_next.Statement.{statement}
 use Rattle.levels.proofs.marked_next.Tie as tie
 
@@ -10,18 +9,18 @@ element-copy-out-if1 : tie.Need-element-copy-out-if1
 element-copy-out-if1 c = search needs
 
 returns : tie.Need-returns
-unfolding markedNext isIn
+unfolding isIn
 returns c = rw (c .if1 .taken)
 
 returns-2 : tie.Need-returns-2
-unfolding markedNext isIn otherThan
+unfolding isIn otherThan
 returns-2 c = rw (c .before .if1 .left, eq-eqb _ _ (c .if2 .taken))
 
 linked-requires : tie.Need-linked-requires
 linked-requires c κs = search needs
 
 returns-3 : tie.Need-returns-3
-unfolding markedNext isIn otherThan
+unfolding isIn otherThan
 returns-3 c = rw (c .before .before .if1 .left, ne-eqb _ _ (c .before .if2 .left), c .linked .ensures)
 
 pub marked-next-spec : {M : Type 1} → statement M

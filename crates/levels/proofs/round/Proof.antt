@@ -4,9 +4,9 @@ use native.Mathlib.Omega.{arith}
 use mathlib.Core.Path.{_≡_}
 use mathlib.Core.Bool.{false}
 use borrow.Author.Needs.{needs}
+use Rattle.rights.specs.Level.{markedNext, otherThan}
 use Rattle.rights.specs.Below.{table}
 use Rattle.rights.specs.Permission.{decoded}
-use Rattle.levels.specs.Round.{markedNext, marking}
 use Rattle.levels.specs.Padded.{padded}
 use Rattle.levels.proofs.Padded.{padded-none, padded-more}
 use Rattle.levels.proofs.round.Statement.{statement}
@@ -14,7 +14,7 @@ use Rattle.levels.proofs.round.Tie as tie
 
 abbrev Inv-loop : tie.InvT-loop
 Inv-loop cells header out perm marks n next₀ y₀ next y =
-    (y ≤ n) × (next ≡ padded false (table y (markedNext header cells out (decoded perm) marks)))
+    (y ≤ n) × (next ≡ padded false (table y (markedNext header cells (otherThan out) (decoded perm) marks)))
 
 abbrev μ-loop : tie.MeasureT-loop
 μ-loop cells header out perm marks n next₀ y₀ next y = n - y
@@ -43,7 +43,6 @@ loop-again c =
     (omega arith, rw (c .before .before .loop .inv .1, c .marked-next .ensures) (padded-more false _ _ l))
 
 returns : tie.Need-returns Inv-loop μ-loop
-unfolding marking
 returns c =
     let e : c .before .loop .y ≡ c .before .before .before .args .header .n = omega arith in rw e at (c .before .loop .inv .1)
 

@@ -7,7 +7,7 @@ use borrow.Author.Needs.{needs}
 use borrow.Author.Tests.{not-true, not-false}
 use Rattle.rights.specs.Below.{allBelow}
 use Rattle.rights.specs.Level.{isIn}
-use Rattle.levels.specs.Round.{sameMark, sameMarks}
+use Rattle.levels.specs.Marks.{sameMark, sameMarks}
 use Rattle.levels.proofs.Loops.{all-more, one-fails}
 use Rattle.levels.proofs.same.Statement.{statement}
 use Rattle.levels.proofs.same.Tie as tie

@@ -10,8 +10,7 @@ use borrow.Author.Needs.{needs}
 use Rattle.rights.specs.Permission.{decoded}
 use Rattle.rights.specs.Register.{soaOf}
 use Rattle.rights.specs.Level.{isIn}
-use Rattle.rights.specs.Question.{linksAway}
-use Rattle.questions.specs.Step.{soaAway, fewestInto}
+use Rattle.rights.specs.Question.{linksAway, soaAway}
 use Rattle.questions.proofs.First.{first-found, first-absent}
 use Rattle.questions.proofs.Sets.{readingAt, away-step}
 use Rattle.questions.proofs.fewest.Statement.{statement}
@@ -37,7 +36,7 @@ array-read-if1 : tie.Need-array-read-if1 Inv-loop μ-loop
 array-read-if1 c = omega arith
 
 returns : tie.Need-returns Inv-loop μ-loop
-unfolding fewestInto soaAway isIn
+unfolding isIn
 returns c =
     let at = c .before .before .loop in
     first-found _ _ (at .links) (omega arith) (at .inv .5) (sym (at .inv .4 _) ∙ c .if1 .taken)
@@ -55,7 +54,7 @@ loop-less : tie.Need-loop-less Inv-loop μ-loop
 loop-less c = omega arith
 
 loop-again : tie.Need-loop-again Inv-loop μ-loop
-unfolding readingAt soaAway isIn
+unfolding readingAt isIn
 loop-again c =
     let at = c .before .before .before .before .before .loop in (
       refl,
@@ -67,7 +66,6 @@ loop-again c =
     )
 
 returns-2 : tie.Need-returns-2 Inv-loop μ-loop
-unfolding fewestInto
 returns-2 c =
     let at = c .before .loop in
     let all : at .links ≡ suc (c .before .before .before .before .before .args .header .n) = omega arith in

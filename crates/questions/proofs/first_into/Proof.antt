@@ -6,7 +6,7 @@ use mathlib.Core.Path.{_≡_, refl, sym, _∙_}
 use mathlib.Core.Bool.{false}
 use borrow.Author.Count.{below-none, below-more}
 use Rattle.rights.specs.Permission.{decoded}
-use Rattle.questions.specs.Step.{linkInto}
+use Rattle.rights.specs.Question.{linkInto}
 use Rattle.questions.proofs.First.{first-found, first-absent}
 use Rattle.questions.proofs.first_into.Statement.{statement}
 use Rattle.questions.proofs.first_into.Tie as tie

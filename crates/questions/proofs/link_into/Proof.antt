@@ -1,7 +1,6 @@
 -- `questions::link_into` meets its contract, by what stands in the set and what the cell carries. Assumes nothing.
 use borrow.Author.Needs.{needs}
 use Rattle.rights.specs.Level.{isIn}
-use Rattle.questions.specs.Step.{linkInto}
 use Rattle.questions.proofs.link_into.Statement.{statement}
 use Rattle.questions.proofs.link_into.Tie as tie
 
@@ -15,11 +14,11 @@ carries-requires : tie.Need-carries-requires
 carries-requires c κs = search needs
 
 returns : tie.Need-returns
-unfolding linkInto isIn
+unfolding isIn
 returns c = rw (c .before .before .if1 .taken, ← c .before .cell .ensures) (c .carries .ensures)
 
 returns-2 : tie.Need-returns-2
-unfolding linkInto isIn
+unfolding isIn
 returns-2 c = rw (c .if1 .left)
 
 pub link-into-spec : {M : Type 1} → statement M

@@ -8,7 +8,6 @@ use borrow.Author.Tests.{not-true, not-false}
 use Rattle.rights.specs.Below.{allBelow}
 use Rattle.rights.specs.Deletion.{same}
 use Rattle.levels.proofs.Loops.{all-more, one-fails}
-use Rattle.strong.specs.Same.{sameCell}
 use Rattle.strong.proofs.Alike.{sameRow}
 use Rattle.strong.proofs.same.Statement.{statement}
 use Rattle.strong.proofs.same.Tie as tie
@@ -27,7 +26,7 @@ same-row-requires : tie.Need-same-row-requires Inv-loop μ-loop
 same-row-requires c κs = search needs
 
 returns : tie.Need-returns Inv-loop μ-loop
-unfolding same sameRow sameCell
+unfolding same sameRow
 returns c =
     let l : c .before .before .before .loop .i < c .before .before .before .before .before .before .args .header .n = omega arith in
     sym (one-fails _ _ _ l (rw (c .before .same-row .ensures) at (not-true (c .before .same-row .result) (c .if1 .taken))))
@@ -46,7 +45,7 @@ loop-again c = (
 )
 
 returns-2 : tie.Need-returns-2 Inv-loop μ-loop
-unfolding same sameRow sameCell
+unfolding same sameRow
 returns-2 c =
     let e : c .before .loop .i ≡ c .before .before .before .before .args .header .n = omega arith in sym (rw e at (c .before .loop .inv .1))
 

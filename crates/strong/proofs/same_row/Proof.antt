@@ -5,8 +5,8 @@ use mathlib.Core.Path.{_≡_, refl, sym}
 use mathlib.Core.Bool.{true}
 use borrow.Author.Needs.{needs}
 use Rattle.rights.specs.Below.{allBelow}
+use Rattle.rights.specs.Deletion.{sameCell}
 use Rattle.levels.proofs.Loops.{all-more, one-fails}
-use Rattle.strong.specs.Same.{sameCell}
 use Rattle.strong.proofs.Alike.{cell-same, cell-differs}
 use Rattle.strong.proofs.same_row.Statement.{statement}
 use Rattle.strong.proofs.same_row.Tie as tie

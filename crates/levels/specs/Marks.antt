@@ -1,0 +1,13 @@
+-- Sets of marks compared.
+use Prim.Native.Nat.{ℕ}
+use mathlib.Core.Bool.{Bool, Bool·beq}
+use mathlib.Core.List.{List}
+use Rattle.rights.specs.Below.{allBelow}
+use Rattle.rights.specs.Level.{isIn}
+
+-- the two sets have the same marks
+unfoldable pub sameMark : List Bool → List Bool → ℕ → Bool
+sameMark a b k = Bool·beq (isIn a k) (isIn b k)
+
+unfoldable pub sameMarks : List Bool → List Bool → Bool
+sameMarks a b = allBelow 128 (sameMark a b)

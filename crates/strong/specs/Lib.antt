@@ -1,2 +1,0 @@
--- What the helpers of strong global deletion give.
-pub mod Same

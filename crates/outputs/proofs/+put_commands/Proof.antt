@@ -9,8 +9,8 @@ use denote.Ref.{now}
 use lib.ListN.{length}
 use Rattle.theory.proofs.Ready.{ready-register}
 use Rattle.theory.proofs.Outcome.{outcome-ready}
+use Rattle.theory.proofs.Refusals.{register-ready}
 use Rattle.printing.proofs.Put.{put-both, put-length}
-use Rattle.outputs.proofs.Accepted.{accepted-ready}
 use Rattle.outputs.proofs.Commands.{output-ended}
 use Rattle.outputs.proofs.Turn.{bad-within, rest-within, rest-shorter, turn-answered, turn-refused}
 use Rattle.outputs.proofs.put_commands.Reads as put-commands
@@ -124,7 +124,7 @@ module _ (t : ℕ) where
       let good = c .before .before .before .before .before .before .before .before .before .before .before .before .if2 .left in
       let shorter = rest-shorter (start .args .text .now) (read .result) (read .ensures) (rest .result .now) (rest .ensures .bytes) good in
       let within = rest-within (start .args .text .now) (read .result) (read .ensures) (rest .result .now) (rest .ensures .bytes) in
-      let ready = accepted-ready (start .args .header) (start .args .cells .now) (start .pre .1 .0) in (
+      let ready = register-ready (start .args .header) (start .args .cells .now) (start .pre .1 .0) in (
         omega (arith, start .pre .0, shorter),
         (
           rw (c .before .before .before .before .before .before .before .before .before .before .command .ensures .cells) (ready-register (start .args .header) _ (outcome-ready (start .args .header) (start .args .cells .now) ready (read .result .command))),

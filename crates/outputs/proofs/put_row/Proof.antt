@@ -4,7 +4,8 @@ use borrow.Author.Needs.{needs}
 use Rattle.wording.specs.Records.{rowText}
 use Rattle.wording.specs.Writer.{rowWritten}
 use Rattle.wording.proofs.Length.{row-short}
-use Rattle.outputs.proofs.Accepted.{accepted-ready, row-accepted}
+use Rattle.theory.proofs.Refusals.{register-ready}
+use Rattle.outputs.proofs.Accepted.{row-accepted}
 use Rattle.outputs.proofs.Part.{put-part}
 use Rattle.outputs.proofs.put_row.Statement.{statement}
 use Rattle.outputs.proofs.put_row.Tie as tie
@@ -25,7 +26,7 @@ add-result : tie.Need-add-result
 unfolding rowWritten
 add-result c =
     let start = c .before .before .before .before .before .before .before in
-    omega (arith, start .pre .2, put-part _ 11264 (start .args .from) (rowText (start .args .header) (start .args .cells .now) (start .args .row .0)) (start .args .room .now) (row-accepted (start .args .header) (start .args .cells .now) (start .pre .0) (start .args .row .0) (start .pre .1)) (start .pre .2) (row-short (start .args .header) (start .args .cells .now) (start .args .row .0) (accepted-ready (start .args .header) (start .args .cells .now) (start .pre .0) .headed) (start .pre .1)) (c .before .before .before .write-row .ensures) .few)
+    omega (arith, start .pre .2, put-part _ 11264 (start .args .from) (rowText (start .args .header) (start .args .cells .now) (start .args .row .0)) (start .args .room .now) (row-accepted (start .args .header) (start .args .cells .now) (start .pre .0) (start .args .row .0) (start .pre .1)) (start .pre .2) (row-short (start .args .header) (start .args .cells .now) (start .args .row .0) (register-ready (start .args .header) (start .args .cells .now) (start .pre .0) .headed) (start .pre .1)) (c .before .before .before .write-row .ensures) .few)
 
 same-length : tie.Need-same-length
 same-length c = search needs
@@ -34,7 +35,7 @@ returns : tie.Need-returns
 unfolding rowWritten
 returns c =
     let start = c .before .before .before .before .before .before .before in
-    let there = put-part _ 11264 (start .args .from) (rowText (start .args .header) (start .args .cells .now) (start .args .row .0)) (start .args .room .now) (row-accepted (start .args .header) (start .args .cells .now) (start .pre .0) (start .args .row .0) (start .pre .1)) (start .pre .2) (row-short (start .args .header) (start .args .cells .now) (start .args .row .0) (accepted-ready (start .args .header) (start .args .cells .now) (start .pre .0) .headed) (start .pre .1)) (c .before .before .before .write-row .ensures) in
+    let there = put-part _ 11264 (start .args .from) (rowText (start .args .header) (start .args .cells .now) (start .args .row .0)) (start .args .room .now) (row-accepted (start .args .header) (start .args .cells .now) (start .pre .0) (start .args .row .0) (start .pre .1)) (start .pre .2) (row-short (start .args .header) (start .args .cells .now) (start .args .row .0) (register-ready (start .args .header) (start .args .cells .now) (start .pre .0) .headed) (start .pre .1)) (c .before .before .before .write-row .ensures) in
     (there .text-put, there .few)
 
 pub put-row-spec : {M : Type 1} → statement M

@@ -4,7 +4,6 @@ use native.Mathlib.Nat.{add-zero, add-suc, add-assoc}
 use native.Mathlib.Numerals.{add-one}
 use native.Mathlib.Omega.{arith}
 use mathlib.Core.Path.{_≡_, ap, sym, _∙_}
-use mathlib.Core.Bool.{Bool, true, false, cond}
 use mathlib.Core.List.{List}
 use lib.ListN.{getD}
 use Rattle.rights.specs.declared.Header.{Header}
@@ -13,6 +12,7 @@ use Rattle.rights.specs.Below.{sumBelow}
 use Rattle.rights.specs.Cell.{has, size, without}
 use Rattle.rights.specs.Register.{cell}
 use Rattle.rights.specs.Tally.{missing}
+use Rattle.theory.proofs.Cell.{cond-le}
 use Rattle.tally.specs.Missing.{missingAt}
 
 pub sum-next : (k : ℕ) (f : ℕ → ℕ) → sumBelow (k + 1) f ≡ sumBelow k f + f k
@@ -38,14 +38,10 @@ pub missing-bytes : (h : Header) (R S : List ℕ) → sumBelow (h .n * h .n) (mi
 unfolding missing missingAt cell
 missing-bytes h R S = sum-rows (h .n) (h .n) (missingAt R S)
 
-at-most-one : (a : Bool) → cond a 1 0 ≤ 1
-at-most-one true = omega arith
-at-most-one false = omega arith
-
 pub size-small : (c : ℕ) → size c ≤ 4
 unfolding size
 size-small c =
-    omega (arith, at-most-one (has c TT), at-most-one (has c TF), at-most-one (has c FT), at-most-one (has c FF))
+    omega (arith, cond-le (has c TT) 1, cond-le (has c TF) 1, cond-le (has c FT) 1, cond-le (has c FF) 1)
 
 pub sum-small : (k : ℕ) (R S : List ℕ) → sumBelow k (missingAt R S) ≤ k * 4
 unfolding sumBelow missingAt

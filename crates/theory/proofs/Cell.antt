@@ -141,7 +141,8 @@ cellOf-has c h = same-below 16 (λ c. cellOf (has c)) (λ c. c) refl c (omega ar
 pub cell-ext : (a b : ℕ) → a ≤ 15 → b ≤ 15 → ((p : Permission) → has a p ≡ has b p) → a ≡ b
 cell-ext a b ha hb e = sym (cellOf-has a ha) ∙ cellOf-ext (has a) (has b) e ∙ cellOf-has b hb
 
-cond-le : (a : Bool) (k : ℕ) → cond a k 0 ≤ k
+-- what stands only where a test passes is no more than itself
+pub cond-le : (a : Bool) (k : ℕ) → cond a k 0 ≤ k
 cond-le true k = omega arith
 cond-le false k = omega arith
 

@@ -6,7 +6,7 @@ use native.Mathlib.Omega.{arith}
 use lib.ListN.{length, drop, drop-of-length-le}
 use denote.Enum.Declared.{tagOf}
 use types.Run.{OneOf, miss}
-use Rattle.wording.specs.Word.{lf, bytes, Choice, Kind, decimal, nLine, soaLine, layerLine, actLine, byLine, toLine, permLine, acts, perms, key, form, endText}
+use Rattle.wording.specs.Word.{lf, Choice, Kind, decimal, nLine, soaLine, layerLine, actLine, byLine, toLine, permLine, key, form, endText}
 use Rattle.wording.specs.Line.{After, after, otherwise, afterWord, chosen, valueOf, behindKey, lineOf}
 use Rattle.wording.specs.Lines.{offset}
 use Rattle.wording.proofs.Line.{after-word-read}
@@ -33,22 +33,15 @@ choice-first text c cs t = go (afterWord (c .word ++ (lf ∷ [])) t) refl
 
 module _ (text t : List ℕ) where
   -- what the text makes of a word and LF
-  abbrev pub readAs : List ℕ → ℕ → LineRead → LineRead
-  readAs word v other = choiceRead v (wordRead text (afterWord word t)) other
+  abbrev readAs : Choice → LineRead → LineRead
+  readAs c other = choiceRead (c .number) (wordRead text (afterWord (c .word ++ (lf ∷ [])) t)) other
 
-  -- the acts, the last word first
-  pub acts-read :
-      {grant wld wgd sld sgd : LineRead} → sgd ≡ readAs (bytes "sgd\n") 4 Bad → sld ≡ readAs (bytes "sld\n") 3 sgd → wgd ≡ readAs (bytes "wgd\n") 2 sld →
-      wld ≡ readAs (bytes "wld\n") 1 wgd → grant ≡ readAs (bytes "grant\n") 0 wld → grant ≡ lineRead text (chosen acts t)
-  unfolding acts lineRead chosen
-  acts-read e5 e4 e3 e2 e1 = rw (choice-first, choice-first, choice-first, choice-first, choice-first) (cc)
-
-  -- the permissions
-  pub perms-read :
-      {tt tf ft ff none : LineRead} → none ≡ readAs (bytes "none\n") 0 Bad → ff ≡ readAs (bytes "FF\n") 1 none → ft ≡ readAs (bytes "FT\n") 2 ff →
-      tf ≡ readAs (bytes "TF\n") 4 ft → tt ≡ readAs (bytes "TT\n") 8 tf → tt ≡ lineRead text (chosen perms t)
-  unfolding perms lineRead chosen
-  perms-read e5 e4 e3 e2 e1 = rw (choice-first, choice-first, choice-first, choice-first, choice-first) (cc)
+  -- one of five words, the last of them tried first
+  pub five-read :
+      (a b c d e : Choice) {first second third fourth fifth : LineRead} → fifth ≡ readAs e Bad → fourth ≡ readAs d fifth → third ≡ readAs c fourth →
+      second ≡ readAs b third → first ≡ readAs a second → first ≡ lineRead text (chosen (a ∷ b ∷ c ∷ d ∷ e ∷ []) t)
+  unfolding lineRead chosen
+  five-read a b c d e e5 e4 e3 e2 e1 = rw (choice-first, choice-first, choice-first, choice-first, choice-first) (cc)
 
 -- a line needs bytes: past the text's end there is none
 pub no-line : (text : List ℕ) (at : ℕ) (k : Kind) → length text < at → Bad ≡ lineAt text at k

@@ -1,6 +1,7 @@
 -- `lines::act` meets its contract: the words in turn, the last one first. Assumes nothing.
 use borrow.Author.Needs.{needs}
-use Rattle.lines.proofs.Words.{acts-read}
+use Rattle.wording.specs.Word.{acts}
+use Rattle.lines.proofs.Words.{five-read}
 use Rattle.lines.proofs.act.Statement.{statement}
 use Rattle.lines.proofs.act.Tie as tie
 
@@ -35,7 +36,9 @@ choice-requires-5 : tie.Need-choice-requires-5
 choice-requires-5 c κs = search needs
 
 returns : tie.Need-returns
-returns c = acts-read _ _ (c .before .before .before .before .before .before .before .before .choice .ensures) (c .before .before .before .before .before .before .choice2 .ensures) (c .before .before .before .before .choice3 .ensures) (c .before .before .choice4 .ensures) (c .choice5 .ensures)
+unfolding acts
+returns c =
+    five-read _ _ _ _ _ _ _ (c .before .before .before .before .before .before .before .before .choice .ensures) (c .before .before .before .before .before .before .choice2 .ensures) (c .before .before .before .before .choice3 .ensures) (c .before .before .choice4 .ensures) (c .choice5 .ensures)
 
 pub act-spec : {M : Type 1} → statement M
 act-spec =

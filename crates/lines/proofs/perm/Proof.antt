@@ -1,6 +1,7 @@
 -- `lines::perm` meets its contract: the words in turn, the last one first. Assumes nothing.
 use borrow.Author.Needs.{needs}
-use Rattle.lines.proofs.Words.{perms-read}
+use Rattle.wording.specs.Word.{perms}
+use Rattle.lines.proofs.Words.{five-read}
 use Rattle.lines.proofs.perm.Statement.{statement}
 use Rattle.lines.proofs.perm.Tie as tie
 
@@ -35,7 +36,9 @@ choice-requires-5 : tie.Need-choice-requires-5
 choice-requires-5 c κs = search needs
 
 returns : tie.Need-returns
-returns c = perms-read _ _ (c .before .before .before .before .before .before .before .before .choice .ensures) (c .before .before .before .before .before .before .choice2 .ensures) (c .before .before .before .before .choice3 .ensures) (c .before .before .choice4 .ensures) (c .choice5 .ensures)
+unfolding perms
+returns c =
+    five-read _ _ _ _ _ _ _ (c .before .before .before .before .before .before .before .before .choice .ensures) (c .before .before .before .before .before .before .choice2 .ensures) (c .before .before .before .before .choice3 .ensures) (c .before .before .choice4 .ensures) (c .choice5 .ensures)
 
 pub perm-spec : {M : Type 1} → statement M
 perm-spec =

@@ -3,41 +3,23 @@
 use Prim.Native.Nat.{ℕ, _+_, _*_, _≤_}
 use native.Mathlib.Nat.{mul-le-mul}
 use native.Mathlib.Omega.{arith}
-use mathlib.Core.Path.{_≡_, refl, sym, _∙_}
-use mathlib.Core.Bool.{Bool, true, false, cond}
+use mathlib.Core.Path.{_≡_}
 use mathlib.Core.List.{List}
-use lib.Dec.{eqb}
 use lib.ListN.{length, take, drop, length-drop}
 use borrow.Author.Tests.{ne-eqb}
 use Rattle.rights.specs.Sound.{registerRefusal}
-use Rattle.wording.specs.Lines.{Reading, got, badAt, offset}
-use Rattle.wording.specs.RegisterReader.{Content, contentOf, contentRefusal, filled, registerDone, registerRefused, judged, registerRead}
-use Rattle.wording.proofs.RegisterText.{register-read-sound, register-rest}
+use Rattle.wording.specs.RegisterReader.{registerRead}
+use Rattle.wording.proofs.RegisterText.{register-read-sound, register-within, register-rest}
 use Rattle.theory.proofs.Ready.{headed-high, ready-register}
 use Rattle.printing.specs.Answers.{refusedText}
 use Rattle.readers.specs.Told.{registerAnswer, RegisterTold}
 use Rattle.readers.specs.declared.RegisterRead.{RegisterRead}
-use Rattle.readers.proofs.Rest.{register-within}
 use Rattle.outputs.specs.Output.{commandsOutput, behindRegister}
-
--- a bad line starts within the text, or at its end
-register-at : (text buffer : List ℕ) → registerRead text buffer .at ≤ length text
-unfolding registerRead judged registerDone registerRefused offset
-register-at text buffer = go (contentOf text)
-  where
-    either : (t : Bool) (c : Content) (rest : List ℕ) →
-        cond t (registerDone text buffer (c .header) (filled (c .header) (c .records)) rest) (registerRefused text buffer (contentRefusal c (length buffer)) 0) .at ≤ length text
-    either true c rest = omega arith
-    either false c rest = omega arith
-
-    go : (x : Reading Content) → judged text buffer x .at ≤ length text
-    go (got c rest) = either (eqb (contentRefusal c (length buffer)) 0) c rest
-    go (badAt line) = omega arith
 
 module _ (input buffer : List ℕ) (r : RegisterRead) (cells : List ℕ) (told : RegisterTold (registerRead input buffer) r cells) where
   pub bad-within : r .at ≤ length input
   unfolding registerAnswer
-  bad-within = rw (told .answer) (register-at input buffer)
+  bad-within = rw (told .answer) (register-within input buffer .1)
 
   pub begun-refused : (r .answer ≡ 0 → ⊥) → refusedText (r .answer) (r .at) ≡ behindRegister (registerRead input buffer)
   unfolding registerAnswer behindRegister
@@ -65,7 +47,7 @@ module _ (input buffer : List ℕ) (r : RegisterRead) (cells : List ℕ) (told :
     module _ (rest : List ℕ) (left : rest ≡ drop (r .next) input) where
       pub commands-within : r .next + length rest ≡ length input
       unfolding registerAnswer
-      commands-within = rw (left, told .answer, length-drop) (omega (arith, register-within input buffer))
+      commands-within = rw (left, told .answer, length-drop) (omega (arith, register-within input buffer .0))
 
       pub begun :
           (m : ℕ) → m ≡ r .header .n * r .header .n →

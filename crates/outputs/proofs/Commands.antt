@@ -1,20 +1,20 @@
 -- The output for the commands of a text, one command at a time. Assumes nothing.
-use Prim.Native.Nat.{ℕ, zero, suc, _+_, _≤_, _<_}
+use Prim.Native.Nat.{ℕ, zero, suc, _+_, _≤_}
 use native.Mathlib.Omega.{arith}
 use mathlib.Core.Path.{_≡_, refl, ap, sym, _∙_}
-use mathlib.Core.Bool.{Bool, true, false, cond}
+use mathlib.Core.Bool.{Bool, true, false}
 use mathlib.Core.List.{List, _++_}
 use lib.Dec.{eqb}
-use lib.ListN.{length, drop, length-append}
-use borrow.Author.Tests.{eq-eqb, ne-eqb, eqb-true}
+use lib.ListN.{length, length-append}
+use borrow.Author.Tests.{ne-eqb, eqb-true}
 use Rattle.rights.specs.declared.Header.{Header}
 use Rattle.rights.specs.declared.Command.{Command}
 use Rattle.rights.specs.Command.{outcome}
 use Rattle.wording.specs.Word.{Kind, actLine, layerLine, byLine, toLine, permLine, key}
-use Rattle.wording.specs.Line.{lineText, wordOf}
-use Rattle.wording.specs.Lines.{Reading, got, badAt, offset, linesOf, linesText, commandLines, commandValues, commandText}
+use Rattle.wording.specs.Line.{lineText}
+use Rattle.wording.specs.Lines.{linesText, commandLines, commandValues, commandText}
 use Rattle.wording.specs.Records.{registerText}
-use Rattle.wording.specs.CommandReader.{commandJudged, commandRead}
+use Rattle.wording.specs.CommandReader.{commandRead}
 use Rattle.wording.proofs.CommandText.{command-read-written}
 use Rattle.printing.specs.Answers.{refusedText}
 use Rattle.outputs.specs.Output.{answered, commandsBy, commandsOutput}
@@ -35,15 +35,6 @@ pub command-shorter : (text : List ℕ) → commandRead text .answer ≡ 0 → l
 command-shorter text e =
     let parts = ap length (command-read-written text e) in
     omega (arith, parts, length-append (commandText (commandRead text .command)) (commandRead text .rest), command-long (commandRead text .command))
-
--- a bad line starts within the text, or at its end
-pub command-at : (text : List ℕ) → commandRead text .at ≤ length text
-unfolding commandRead commandJudged offset
-command-at text = go (linesOf commandLines text)
-  where
-    go : (x : Reading (List ℕ)) → commandJudged text x .at ≤ length text
-    go (got vs rest) = omega arith
-    go (badAt line) = omega arith
 
 module _ (h : Header) where
   -- where the text has ended, however many commands there may be

@@ -6,11 +6,11 @@ use lib.ListN.{length, length-append}
 use Rattle.wording.specs.Word.{bytes}
 use Rattle.printing.specs.NumberLine.{numberLine}
 use Rattle.printing.specs.Answers.{answerText, refusedText}
-use Rattle.printing.proofs.Number.{ten-digits}
+use Rattle.wording.proofs.Digits.{few-digits}
 
 line-short : (key : List ℕ) (v : ℕ) → v < 2 ^ 32 → length (numberLine key v) ≤ length key + 11
 unfolding numberLine
-line-short key v h = simp length-append (omega (arith, ten-digits v h))
+line-short key v h = simp length-append (omega (arith, few-digits 9 v (omega arith)))
 
 -- what a command answered, in three lines of ten digits at most
 pub answer-short : (answer removed added : ℕ) → answer < 2 ^ 32 → removed < 2 ^ 32 → added < 2 ^ 32 → length (answerText answer removed added) ≤ 54

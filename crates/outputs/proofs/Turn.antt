@@ -1,26 +1,25 @@
 -- One command of a text, as code reads it and carries it out: what it adds to the output, and what is left. Assumes nothing.
 use Prim.Native.Nat.{ℕ, _+_, _≤_}
 use native.Mathlib.Omega.{arith}
-use mathlib.Core.Path.{_≡_, refl, ap, sym, _∙_}
+use mathlib.Core.Path.{_≡_, sym, _∙_}
 use mathlib.Core.List.{List, _++_}
 use lib.ListN.{length, drop, length-drop}
 use Rattle.rights.specs.declared.Header.{Header}
 use Rattle.rights.specs.Command.{outcome}
 use Rattle.wording.specs.CommandReader.{commandRead}
-use Rattle.wording.proofs.CommandText.{command-rest}
+use Rattle.wording.proofs.CommandText.{command-rest, command-within}
 use Rattle.printing.specs.Answers.{answerText, refusedText}
 use Rattle.readers.specs.Told.{commandTold, commandAnswer}
 use Rattle.readers.specs.declared.CommandRead.{CommandRead}
-use Rattle.readers.proofs.Rest.{command-within}
 use Rattle.commands.specs.declared.Outcome.{Outcome}
 use Rattle.commands.specs.Post.{Answers}
 use Rattle.outputs.specs.Output.{answered, commandsOutput}
-use Rattle.outputs.proofs.Commands.{command-shorter, command-at, output-refused, output-answered}
+use Rattle.outputs.proofs.Commands.{command-shorter, output-refused, output-answered}
 
 module _ (text : List ℕ) (r : CommandRead) (told : r ≡ commandTold text) where
   pub bad-within : r .at ≤ length text
   unfolding commandTold commandAnswer
-  bad-within = rw told (command-at text)
+  bad-within = rw told (command-within text .1)
 
   -- what is left of the text
   module _ (rest : List ℕ) (left : rest ≡ drop (r .next) text) where
@@ -30,7 +29,7 @@ module _ (text : List ℕ) (r : CommandRead) (told : r ≡ commandTold text) whe
 
     pub rest-within : r .next + length rest ≡ length text
     unfolding commandTold commandAnswer
-    rest-within = rw (left, told, length-drop) (omega (arith, command-within text))
+    rest-within = rw (left, told, length-drop) (omega (arith, command-within text .0))
 
     pub rest-shorter : r .answer ≡ 0 → length rest + 26 ≤ length text
     unfolding commandTold commandAnswer

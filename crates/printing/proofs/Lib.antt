@@ -1,5 +1,4 @@
 -- What the proofs of several functions share.
 pub mod Put
-pub mod Number
 pub mod Told
 pub mod Unique

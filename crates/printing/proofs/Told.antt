@@ -7,8 +7,9 @@ use mathlib.Core.List.{List, append-nil, append-assoc}
 use lib.ListN.{length, drop, length-drop, drop-of-length-le}
 use lib.Seq.{sets-eq, take-all, drop-drop}
 use borrow.Rule.Slice.PartMut.{midOf, putMid}
-use borrow.Author.Tests.{ne-eqb, lt-ltb, le-ltb}
+use borrow.Author.Tests.{ne-eqb, lt-ltb}
 use Rattle.wording.specs.Writer.{notWritten, written, writtenBehind}
+use Rattle.wording.proofs.Writers.{room-enough}
 use Rattle.printing.specs.Put.{Room, Put}
 use Rattle.printing.specs.Told.{Told}
 use Rattle.printing.specs.declared.Written.{Written as Result}
@@ -23,17 +24,13 @@ pub told-short : (room text : List ℕ) → length room < length text → Told (
 unfolding writtenBehind notWritten
 told-short room text h = rw (lt-ltb (length room) (length text) h) (record { answered = refl; sized = refl; left = refl })
 
-done : (room text : List ℕ) → length text ≤ length room → writtenBehind 0 room text ≡ written room text
-unfolding writtenBehind
-done room text h = rw (le-ltb (length room) (length text) h)
-
 -- the text has been written at the start of the room
 pub told-done :
     {text room after : List ℕ} {size : ℕ} → Room text room 0 → Put text room 0 after size →
     Told (writtenBehind 0 room text) (record { answer = 0; size = size }) after
 unfolding written
 told-done {text} {room} fits p =
-    rw (done room text (omega (arith, fits .enough)))
+    rw (room-enough room text (omega (arith, fits .enough)))
     (record { answered = refl; sized = omega (arith, p .ends); left = p .holds ∙ sets-eq text room 0 (fits .enough) ∙ rw zero-add })
 
 -- the same in a part of a room that is lent from a place on
@@ -46,7 +43,7 @@ told-part {text} {room} {part} at fits t =
     let size = length-drop at room in
     let short : length (drop at room) ≤ length room - at = omega arith in
     let enough : length text ≤ length (drop at room) = omega (arith, fits .enough) in
-    let there = rw (take-all (length room - at) (drop at room) short, done (drop at room) text enough) at t in
+    let there = rw (take-all (length room - at) (drop at room) short, room-enough (drop at room) text enough) at t in
     record {
       ends = omega (arith, there .sized);
       holds =

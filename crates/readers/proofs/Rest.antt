@@ -1,15 +1,12 @@
 -- The rest that a reader hands back is the caller's own text. Assumes nothing.
 use Prim.Native.Nat.{ℕ, _-_, _≤_, _<_}
 use mathlib.Core.Path.{_≡_, sym, ap, _∙_}
-use mathlib.Core.Bool.{Bool, true, false, cond}
 use mathlib.Core.List.{List}
 use native.Mathlib.Omega.{arith}
-use lib.Dec.{eqb}
 use lib.ListN.{length, take, drop, length-drop, drop-of-length-le}
 use lib.Seq.{take-all, take-nil, drop-length}
-use Rattle.wording.specs.Lines.{Reading, got, badAt, offset, linesOf, commandLines}
-use Rattle.wording.specs.RegisterReader.{Content, contentOf, contentRefusal, filled, registerDone, registerRefused, judged, registerRead}
-use Rattle.wording.specs.CommandReader.{commandJudged, commandRead}
+use Rattle.wording.specs.RegisterReader.{registerRead}
+use Rattle.wording.specs.CommandReader.{commandRead}
 use Rattle.wording.proofs.RegisterText as register-text
 use Rattle.wording.proofs.CommandText as command-text
 use Rattle.readers.specs.Told.{commandAnswer, commandTold, registerAnswer, RegisterTold, RestTold, RegisterRest, CommandRest}
@@ -22,27 +19,6 @@ part-there text next h = take-all (length text - next) (drop next text) (rw leng
 pub part-past : (text : List ℕ) (next : ℕ) → length text < next → take (length text - length text) (drop (length text) text) ≡ drop next text
 part-past text next h = rw (drop-length, drop-of-length-le text {i = next} (omega arith)) (take-nil (length text - length text))
 
-pub command-within : (text : List ℕ) → commandRead text .next ≤ length text
-unfolding commandRead commandJudged offset
-command-within text = go (linesOf commandLines text)
-  where
-    go : (x : Reading (List ℕ)) → commandJudged text x .next ≤ length text
-    go (got vs rest) = omega arith
-    go (badAt line) = omega arith
-
-pub register-within : (text buffer : List ℕ) → registerRead text buffer .next ≤ length text
-unfolding registerRead judged registerDone registerRefused offset
-register-within text buffer = go (contentOf text)
-  where
-    either : (t : Bool) (c : Content) (rest : List ℕ) →
-        cond t (registerDone text buffer (c .header) (filled (c .header) (c .records)) rest) (registerRefused text buffer (contentRefusal c (length buffer)) 0) .next ≤ length text
-    either true c rest = omega arith
-    either false c rest = omega arith
-
-    go : (x : Reading Content) → judged text buffer x .next ≤ length text
-    go (got c rest) = either (eqb (contentRefusal c (length buffer)) 0) c rest
-    go (badAt line) = omega arith
-
 module _ {start there : ℕ × ℕ} {text rest : List ℕ} where
   pub command-rest-told : (read : CommandRead) → read ≡ commandTold text → RestTold start text (read .next) there rest → CommandRest start (commandRead text) there rest
   unfolding commandTold commandAnswer
@@ -51,7 +27,7 @@ module _ {start there : ℕ × ℕ} {text rest : List ℕ} where
       record {
         bytes = told .bytes ∙ ap (λ (k : ℕ). drop k text) n ∙ sym (command-text.command-rest text);
         same-text = told .same-text;
-        place = omega (arith, told .place, command-within text);
+        place = omega (arith, told .place, command-text.command-within text .0);
       }
 
   pub register-rest-told :
@@ -63,6 +39,6 @@ module _ {start there : ℕ × ℕ} {text rest : List ℕ} where
       record {
         bytes = told .bytes ∙ ap (λ (k : ℕ). drop k text) n ∙ sym (register-text.register-rest text buffer);
         same-text = told .same-text;
-        place = omega (arith, told .place, register-within text buffer);
+        place = omega (arith, told .place, register-text.register-within text buffer .0);
         buffer = was .buffer;
       }

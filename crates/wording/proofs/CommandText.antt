@@ -1,5 +1,5 @@
 -- Command text: what is read is written again, what is written is read again, and the rest is the caller's own text.
-use Prim.Native.Nat.{ℕ}
+use Prim.Native.Nat.{ℕ, _≤_}
 use mathlib.Core.Path.{_≡_, refl, sym}
 use mathlib.Core.Bool.{true}
 use mathlib.Core.List.{List, [], _∷_, _++_}
@@ -8,7 +8,7 @@ use lib.ListN.{length, drop}
 use lib.Seq.{drop-length}
 use Rattle.rights.specs.declared.Command.{Command}
 use Rattle.wording.proofs.Lines.{offset-behind, rest-by-offset, lines-read, lines-written, fit-length}
-use Rattle.wording.specs.Lines.{Reading, got, badAt, linesOf, linesText, allFit, commandLines, commandOf, commandValues, commandText}
+use Rattle.wording.specs.Lines.{Reading, got, badAt, offset, linesOf, linesText, allFit, commandLines, commandOf, commandValues, commandText}
 use Rattle.wording.specs.CommandReader.{commandJudged, commandRead}
 
 command-values : (vs : List ℕ) → length vs ≡ 5 → commandValues (commandOf vs) ≡ vs
@@ -39,6 +39,15 @@ pub command-written-read :
     commandRead (commandText c ++ more) ≡ record { answer = 0; at = 0; command = c; next = length (commandText c); rest = more }
 unfolding commandRead commandJudged commandOf commandValues commandText
 command-written-read c more e = rw (lines-written commandLines (commandValues c) more e, offset-behind)
+
+-- the rest, and a bad line, start within the text or at its end
+pub command-within : (text : List ℕ) → (commandRead text .next ≤ length text) × (commandRead text .at ≤ length text)
+unfolding commandRead commandJudged offset
+command-within text = go (linesOf commandLines text)
+  where
+    go : (x : Reading (List ℕ)) → (commandJudged text x .next ≤ length text) × (commandJudged text x .at ≤ length text)
+    go (got vs rest) = (omega arith, omega arith)
+    go (badAt line) = (omega arith, omega arith)
 
 -- the part handed back is the caller's text from `next` on
 pub command-rest : (text : List ℕ) → commandRead text .rest ≡ drop (commandRead text .next) text

@@ -1,43 +1,22 @@
 -- How long the texts are at most: a room of 11264 bytes is enough for any row, one of 26 for any header.
-use Prim.Native.Nat.{ℕ, zero, suc, _+_, _*_, _/_, _%_, _≤_, _<_}
+use Prim.Native.Nat.{ℕ, zero, suc, _+_, _*_, _≤_, _<_}
 use mathlib.Core.Path.{_≡_, refl}
 use mathlib.Core.Bool.{Bool, true, false, cond}
 use mathlib.Core.List.{List, [], _∷_}
 use native.Mathlib.Omega.{arith}
-use lib.Dec.{ltb}
 use lib.ListN.{length, length-append}
-use borrow.Author.Tests.{ltb-true, ltb-false}
 use Rattle.rights.specs.declared.Header.{Header}
 use Rattle.rights.specs.Permission.{Permission, TT, TF, FT, FF, code}
 use Rattle.rights.specs.Cell.{has}
 use Rattle.rights.specs.Register.{cell}
 use Rattle.rights.specs.Sound.{headed}
 use Rattle.wording.specs.Word.{Kind, key, form, perms, wordFor}
-use Rattle.wording.specs.Line.{numeral, wordOf, lineText}
+use Rattle.wording.specs.Line.{wordOf, lineText}
 use Rattle.wording.specs.Lines.{linesText, headerLines, headerValues, headerText}
 use Rattle.wording.specs.Records.{recordText, recordsText, joined, recordOf, cellRecords, rowRecords, rowText}
 use Rattle.theory.proofs.Ready.{headed-high, headed-inside}
-use Rattle.wording.proofs.Number.{numeral-digit, numeral-more}
+use Rattle.wording.proofs.Digits.{few-digits}
 use Rattle.wording.proofs.Content.{records-text-append}
-
--- a number below ten times the bound has one digit more at most
-one-digit : (v : ℕ) → v < 10 → length (numeral v) ≤ 1
-one-digit v h = rw (numeral-digit v h) (omega arith)
-
-more-digits : (k bound v : ℕ) → ((w : ℕ) → w < bound → length (numeral w) ≤ k) → 1 ≤ k → v < bound * 10 → length (numeral v) ≤ suc k
-more-digits k bound v fewer some h = go (ltb v 10) refl
-  where
-    go : (t : Bool) → ltb v 10 ≡ t → length (numeral v) ≤ suc k
-    go true e = omega (arith, one-digit v (ltb-true v 10 e))
-    go false e =
-        let lower : v / 10 < bound = omega arith in
-        rw (numeral-more v (ltb-false v 10 e)) (omega (arith, fewer (v / 10) lower, length-append (numeral (v / 10)) ((48 + v % 10) ∷ [])))
-
-three-digits : (v : ℕ) → v < 1000 → length (numeral v) ≤ 3
-three-digits v h = more-digits 2 100 v (λ w. more-digits 1 10 w one-digit (omega arith)) (omega arith) h
-
-five-digits : (v : ℕ) → v < 100000 → length (numeral v) ≤ 5
-five-digits v h = more-digits 4 10000 v (λ w. more-digits 3 1000 w three-digits (omega arith)) (omega arith) h
 
 line-length : (k : Kind) (v : ℕ) → length (lineText k v) ≡ length (key k) + (length (wordOf (form k) v) + 1)
 unfolding lineText
@@ -54,7 +33,7 @@ perm-word FF = refl
 record-short : (i j : ℕ) (p : Permission) → i < 1000 → j < 1000 → length (recordText (record { by = i; to = j; perm = code p })) ≤ 22
 unfolding recordText key form wordOf
 record-short i j p hi hj =
-    simp (length-append, line-length) (omega (arith, three-digits i hi, three-digits j hj, perm-word p))
+    simp (length-append, line-length) (omega (arith, few-digits 2 i (omega arith), few-digits 2 j (omega arith), perm-word p))
 
 part-short : (i j c : ℕ) (p : Permission) → i < 1000 → j < 1000 → length (recordsText (recordOf i j c p)) ≤ 22
 unfolding recordOf recordsText
@@ -90,4 +69,4 @@ header-short h head layer =
     let small = headed-high h head in
     let soa = headed-inside h head in
     simp (length-append, line-length)
-    (omega (arith, three-digits (h .n) (omega arith), three-digits (h .soa .0) (omega arith), five-digits (h .layer .0) (omega arith)))
+    (omega (arith, few-digits 2 (h .n) (omega arith), few-digits 2 (h .soa .0) (omega arith), few-digits 4 (h .layer .0) (omega arith)))

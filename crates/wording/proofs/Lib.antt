@@ -1,6 +1,7 @@
 -- The laws of the text, and a few texts as the definitions read them.
 pub mod Truth
 pub mod Number
+pub mod Digits
 pub mod Line
 pub mod Lines
 pub mod CommandText

@@ -1,7 +1,7 @@
 -- Register text: what is read is written again, what is written is read again, and the rest is the caller's own text.
 use Prim.Native.Nat.{ℕ, _*_, _-_, _≤_}
 use mathlib.Core.Path.{_≡_, refl, sym, ap, _∙_}
-use mathlib.Core.Bool.{Bool, true, false}
+use mathlib.Core.Bool.{Bool, true, false, cond}
 use mathlib.Core.List.{List, _++_}
 use native.Mathlib.Omega.{arith}
 use lib.Dec.{eqb}
@@ -94,6 +94,21 @@ register-read-sound text buffer e = go (ended text buffer)
           sound-read = rw cells (a .sound-ok);
         }
     go (refused number at some s) = absurd (some (not-zero text buffer number at s e))
+
+-- the rest, and a bad line, start within the text or at its end
+pub register-within : (text buffer : List ℕ) → (registerRead text buffer .next ≤ length text) × (registerRead text buffer .at ≤ length text)
+unfolding registerRead judged registerDone registerRefused offset
+register-within text buffer = go (contentOf text)
+  where
+    either : (t : Bool) (c : Content) (rest : List ℕ) →
+        let r = cond t (registerDone text buffer (c .header) (filled (c .header) (c .records)) rest) (registerRefused text buffer (contentRefusal c (length buffer)) 0) in
+        (r .next ≤ length text) × (r .at ≤ length text)
+    either true c rest = (omega arith, omega arith)
+    either false c rest = (omega arith, omega arith)
+
+    go : (x : Reading Content) → (judged text buffer x .next ≤ length text) × (judged text buffer x .at ≤ length text)
+    go (got c rest) = either (eqb (contentRefusal c (length buffer)) 0) c rest
+    go (badAt line) = (omega arith, omega arith)
 
 -- the part handed back is the caller's text from `next` on
 pub register-rest : (text buffer : List ℕ) → registerRead text buffer .rest ≡ drop (registerRead text buffer .next) text

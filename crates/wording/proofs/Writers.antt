@@ -43,7 +43,7 @@ abbrev pub holding : List ℕ → List ℕ → Room
 holding bytes text = record { used = length text; bytes = text ++ drop (length text) bytes }
 
 -- a writer with no refusal before 14 writes a text for which there is room
-room-enough : (room text : List ℕ) → length text ≤ length room → writtenBehind 0 room text ≡ written room text
+pub room-enough : (room text : List ℕ) → length text ≤ length room → writtenBehind 0 room text ≡ written room text
 unfolding writtenBehind
 room-enough room text h = rw (le-ltb (length room) (length text) h)
 

@@ -11,6 +11,7 @@ use Rattle.rights.specs.declared.Header.{Header}
 use Rattle.rights.specs.Permission.{Permission, TT, TF, FT, FF, code, decoded}
 use Rattle.rights.specs.Cell.{has, size}
 use Rattle.rights.specs.Register.{cell}
+use Rattle.theory.proofs.Cell.{cond-le}
 use Rattle.wording.specs.Word.{key, form, perms, wordFor}
 use Rattle.wording.specs.Line.{numeral, wordOf, lineText}
 use Rattle.wording.specs.Records.{recordText, recordsText, joined, recordOf, cellRecords, rowRecords, rowText}
@@ -59,11 +60,7 @@ cell-size i j c = rw (cell-members i j c) (simp (length-append, member-size, add
 -- no cell has more than four records
 pub few-records : (c : ℕ) → size c ≤ 4
 unfolding size
-few-records c = omega (arith, one (has c TT), one (has c TF), one (has c FT), one (has c FF))
-  where
-    one : (t : Bool) → cond t 1 0 ≤ 1
-    one true = omega arith
-    one false = omega arith
+few-records c = omega (arith, cond-le (has c TT) 1, cond-le (has c TF) 1, cond-le (has c FT) 1, cond-le (has c FF) 1)
 
 -- the text so far: none, one cell more, all
 pub row-none : (h : Header) (R : List ℕ) (i : ℕ) → rowUpTo h R i 0 ≡ []

@@ -7,7 +7,7 @@ use borrow.Fn.Kinds.{In}
 use borrow.Fn.PlainCycle.{Measures, is, falls, and}
 use Rattle.wording.proofs.Number.{numeral-digit, numeral-more}
 use Rattle.printing.proofs.Put.{put-both}
-use Rattle.printing.proofs.Number.{one-digit, more-digits}
+use Rattle.wording.proofs.Digits.{one-digit, more-digits}
 use Rattle.printing.proofs.put_number.Reads as put-number
 use Rattle.printing.proofs.put_number.Kinds as put-number-kinds
 use Rattle.printing.proofs.+put_number.Lts-put_number as put-number-lts

@@ -5,7 +5,7 @@ use mathlib.Core.Path.{_≡_, refl}
 use lib.ListN.{length}
 use borrow.Author.Needs.{needs}
 use Rattle.wording.specs.Line.{numeral}
-use Rattle.printing.proofs.Number.{one-digit, more-digits, ten-digits}
+use Rattle.wording.proofs.Digits.{one-digit, more-digits, few-digits}
 use Rattle.printing.proofs.digits.Statement.{statement}
 use Rattle.printing.proofs.digits.Tie as tie
 
@@ -30,7 +30,7 @@ loop-again c = (omega (arith, more-digits (c .before .loop .rest) (c .loop-test 
 returns : tie.Need-returns Inv-loop μ-loop
 returns c =
     let one = one-digit (c .before .loop .rest) (c .loop-test .left) in
-    (omega arith, omega (arith, ten-digits (c .before .before .args .v) (search needs)))
+    (omega arith, omega (arith, few-digits 9 (c .before .before .args .v) (omega arith)))
 
 pub digits-spec : {M : Type 1} → statement M
 digits-spec =

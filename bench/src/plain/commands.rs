@@ -119,6 +119,13 @@ fn tallied(before: &[u8], after: &[u8], header: Header) -> Outcome {
     }
 }
 
+fn accepted(cells: &mut [u8], header: Header, command: Command) -> Outcome {
+    let before = deletions::copied(cells);
+    carry_out(cells, header, command);
+    let length = cells.len();
+    tallied(&before[0..length], cells, header)
+}
+
 pub fn command(cells: &mut [u8], header: Header, command: Command) -> Outcome {
     let answer = refusal(cells, header, command);
     if answer != 0 {
@@ -128,8 +135,5 @@ pub fn command(cells: &mut [u8], header: Header, command: Command) -> Outcome {
             added: 0,
         };
     }
-    let before = deletions::copied(cells);
-    carry_out(cells, header, command);
-    let length = cells.len();
-    tallied(&before[0..length], cells, header)
+    accepted(cells, header, command)
 }

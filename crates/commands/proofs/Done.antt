@@ -1,6 +1,6 @@
 -- What a refused command answers and leaves, and what one that is carried out does. Assumes nothing.
 use Prim.Native.Nat.{ℕ}
-use mathlib.Core.Path.{_≡_, sym, _∙_}
+use mathlib.Core.Path.{_≡_, _∙_}
 use mathlib.Core.Bool.{true}
 use mathlib.Core.List.{List}
 use lib.ListN.{length, take}
@@ -29,12 +29,12 @@ refused-as h R c e ne =
     let applies = ne-eqb (refusal h R c) 0 (λ z. ne (e ∙ z)) in
     record { answer = rw applies e; removed = rw applies; added = rw applies; cells = rw applies }
 
-module _ (h : Header) (R : List ℕ) (c : Command) {k : ℕ} (e : k ≡ refusal h R c) (z : k ≡ 0) where
+module _ (h : Header) (R : List ℕ) (c : Command) (none : refusal h R c ≡ 0) where
   ready : Ready h R
-  ready = command-passed h R c (sym e ∙ z) .register
+  ready = command-passed h R c none .register
 
   whole-carried : whole h (carriedOut h R c) ≡ true
-  whole-carried = rw (outcome-done h R c (eq-eqb (refusal h R c) 0 (sym e ∙ z))) at (outcome-ready h R ready c .whole)
+  whole-carried = rw (outcome-done h R c (eq-eqb (refusal h R c) 0 none)) at (outcome-ready h R ready c .whole)
 
   -- the copy of the register before can be looked back at
   pub looked-back : {S copy : List ℕ} → S ≡ ifWhole h R (carriedOut h R c) → copy ≡ copyOf R → Lent h R S copy
@@ -48,7 +48,7 @@ module _ (h : Header) (R : List ℕ) (c : Command) {k : ℕ} (e : k ≡ refusal 
       Answers (outcome h R c) r S
   unfolding outcome done ifWhole missingIfWhole
   done-as {S} s p b t =
-      let passes = eq-eqb (refusal h R c) 0 (sym e ∙ z) in
+      let passes = eq-eqb (refusal h R c) 0 none in
       let before = b ∙ looked-back s p .same in
       let head = ready .headed in
       let made : S ≡ carriedOut h R c = s ∙ rw (head, ready .whole) in

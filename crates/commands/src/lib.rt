@@ -157,6 +157,17 @@ fn tallied(before: &[u8], after: &[u8], header: Header) -> Outcome
     }
 }
 
+// A command that nothing refuses: its deed, tallied against a copy of the register as the command found it.
+fn accepted(cells: &mut [u8], header: Header, command: Command) -> Outcome
+    requires { ⌜ refusalOf header (now cells) command ≡ 0 ⌝ }
+    ensures { λ r. ⌜ Answers (outcome header (now (cells .entry)) command) r (now (cells .exit)) ⌝ }
+{
+    let before = deletions::copied(cells);
+    carry_out(cells, header, command);
+    let length = cells.len();
+    tallied(&before[0..length], cells, header)
+}
+
 // One command: the answer, the tally, and the register as the command leaves it.
 pub fn command(cells: &mut [u8], header: Header, command: Command) -> Outcome
     ensures { λ r. ⌜ Answers (outcome header (now (cells .entry)) command) r (now (cells .exit)) ⌝ }
@@ -169,8 +180,5 @@ pub fn command(cells: &mut [u8], header: Header, command: Command) -> Outcome
             added: 0,
         };
     }
-    let before = deletions::copied(cells);
-    carry_out(cells, header, command);
-    let length = cells.len();
-    tallied(&before[0..length], cells, header)
+    accepted(cells, header, command)
 }

@@ -1,10 +1,6 @@
 -- `commands::command` meets its contract. Assumes nothing.
-use native.Mathlib.Omega.{arith}
-use Prim.Native.Nat.{ℕ, _-_}
-use mathlib.Core.Path.{_≡_, ap}
-use lib.ListN.{length, take}
-use Rattle.deletions.proofs.Local.{few-cells}
-use Rattle.commands.proofs.Done.{refused-as, looked-back, done-as}
+use mathlib.Core.Path.{sym, _∙_}
+use Rattle.commands.proofs.Done.{refused-as}
 use borrow.Author.Needs.{needs}
 use Rattle.commands.proofs.command.Statement.{statement}
 use Rattle.commands.proofs.command.Tie as tie
@@ -18,49 +14,14 @@ same-length c = search needs
 returns : tie.Need-returns
 returns c = refused-as _ _ _ (c .before .refusal .ensures) (c .if1 .taken)
 
-copied-requires : tie.Need-copied-requires
-copied-requires c κs = search needs
-
-carry-out-requires : tie.Need-carry-out-requires
-carry-out-requires c κs = search needs
-
-sub-tallied : tie.Need-sub-tallied
-sub-tallied c = search needs
-
-part-tallied-start : tie.Need-part-tallied-start
-part-tallied-start c = search needs
-
-part-tallied-end : tie.Need-part-tallied-end
-part-tallied-end c =
-    let back = looked-back _ _ _ (c .before .before .before .before .before .before .before .before .refusal .ensures) (c .before .before .before .before .before .before .before .if1 .left) (c .before .before .before .carry-out .ensures) (c .before .before .before .before .before .copied .ensures) in
-    omega (arith, few-cells _ _ (back .here))
-
-tallied-requires : tie.Need-tallied-requires
-tallied-requires c κs = search needs
+accepted-requires : tie.Need-accepted-requires
+accepted-requires c κs = sym (c .before .before .refusal .ensures) ∙ c .before .if1 .left
 
 same-length-2 : tie.Need-same-length-2
 same-length-2 c = search needs
 
 returns-2 : tie.Need-returns-2
-returns-2 c =
-    let S = c .before .before .before .before .before .before .carry-out .last .0 in
-    let whole : length S - 0 ≡ length S = omega arith in
-    done-as _ _ _ (c .before .before .before .before .before .before .before .before .before .before .before .refusal .ensures) (c .before .before .before .before .before .before .before .before .before .before .if1 .left) (c .before .before .before .before .before .before .carry-out .ensures) (c .before .before .before .before .before .before .before .before .copied .ensures)
-    (ap (λ (z : ℕ). take z (c .before .before .before .before .before .before .before .before .copied .result)) whole)
-    (c .tallied .ensures)
+returns-2 c = search needs
 
 pub command-spec : {M : Type 1} → statement M
-command-spec =
-    tie.close
-    (tie.spec
-    refusal-requires
-    same-length
-    returns
-    copied-requires
-    carry-out-requires
-    sub-tallied
-    part-tallied-start
-    part-tallied-end
-    tallied-requires
-    same-length-2
-    returns-2)
+command-spec = tie.close (tie.spec refusal-requires same-length returns accepted-requires same-length-2 returns-2)

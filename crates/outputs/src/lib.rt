@@ -96,7 +96,8 @@ fn put_register(cells: &[u8], header: Header, room: &mut [u8], from: usize) -> u
 }
 
 // Runs the commands of a text one at a time and writes their answers, and behind them the register; a refused text ends it. The
-// text is what the input has from the byte `at` on. A command has 26 bytes or more, so three for each byte hold every answer.
+// text is what the input has from the byte `at` on. A command has five keys and five LF, 26 bytes, so three for each byte hold every
+// answer.
 fn put_commands(
     text: &[u8],
     at: usize,

@@ -24,7 +24,7 @@ unfolding lineText
 line-long k v = simp length-append (omega arith)
 
 -- five keys and five LF
-command-long : (c : Command) → 26 ≤ length (commandText c)
+pub command-long : (c : Command) → 26 ≤ length (commandText c)
 unfolding commandText linesText commandLines commandValues key
 command-long c =
     simp length-append

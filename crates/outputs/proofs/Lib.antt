@@ -9,3 +9,4 @@ pub mod Whole
 pub mod Unique
 pub mod Example
 pub mod Again
+pub mod Commanded

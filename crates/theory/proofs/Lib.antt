@@ -26,3 +26,4 @@ pub mod Granting
 pub mod Rest
 pub mod Outcome
 pub mod WeakRun
+pub mod Question

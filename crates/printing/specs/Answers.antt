@@ -14,9 +14,10 @@ answerText answer removed added =
 unfoldable pub refusedText : ℕ → ℕ → List ℕ
 refusedText number at = numberLine (bytes "refused=") number ++ numberLine (bytes "at=") at
 
--- what the writers of these lines answer and leave, by the rule of the header
+-- not of 01: a writer of a command's three lines, by the rule of the end line's, from which the output of `regrun` is put together
 unfoldable pub answerWritten : ℕ → ℕ → ℕ → List ℕ → Written
 answerWritten answer removed added room = writtenBehind 0 room (answerText answer removed added)
 
+-- not of 01: a writer of `refused=` and `at=`, by the same rule
 unfoldable pub refusedWritten : ℕ → ℕ → List ℕ → Written
 refusedWritten number at room = writtenBehind 0 room (refusedText number at)

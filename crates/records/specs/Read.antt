@@ -8,10 +8,11 @@ use Rattle.records.specs.declared.Record.{Record}
 use Rattle.records.specs.declared.RecordRead.{RecordRead}
 use Rattle.records.specs.declared.RecordRead.the-variants.{Got, BadAt}
 
--- the record of the text, and back
+-- not of 01: the record of the text for a record of the code, whose offices are of their own type
 unfoldable pub textRecord : Record → TextRecord
 textRecord r = record { by = r .by .0; to = r .to .0; perm = r .perm }
 
+-- not of 01: the record of the code for a record of the text
 unfoldable pub recordOf : TextRecord → Record
 recordOf r = record { by = record { 0 = r .by }; to = record { 0 = r .to }; perm = r .perm }
 

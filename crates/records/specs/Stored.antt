@@ -25,6 +25,7 @@ roomFor h size r = ltb (r .by) (h .n) && ltb (r .to) (h .n) && ltb (placeOf h r)
 unfoldable pub storedOne : Header → List ℕ → Record → List ℕ
 storedOne h cells r = cond (roomFor h (length cells) r) (set cells (placeOf h r) (union (getD cells (placeOf h r) 0) (r .perm))) cells
 
+-- the buffer with each record added in turn, where it has a cell
 unfoldable pub stored : Header → List ℕ → List Record → List ℕ
 stored h cells [] = cells
 stored h cells (r ∷ rs) = stored h (storedOne h cells r) rs
@@ -50,11 +51,12 @@ unfoldable pub foundIs : RecordsRead → List ℕ → Found
 foundIs (End out barred next) cells = found out barred cells next
 foundIs (BadAt line) cells = stopped line
 
--- the answer, and the buffer of this size: a bad line leaves it zero
+-- the answer that says what was found
 unfoldable pub answerOf : Found → RecordsRead
 answerOf (found out barred cells next) = End out barred next
 answerOf (stopped line) = BadAt line
 
+-- the buffer of this size that what was found leaves; for a bad line 01's 'Refused: the whole buffer zero'
 unfoldable pub cellsOf : ℕ → Found → List ℕ
 cellsOf size (found out barred cells next) = cells
 cellsOf size (stopped line) = replicate size 0

@@ -17,10 +17,12 @@ unfoldable pub unanswered : List Command → List Entry
 unanswered [] = []
 unanswered (c ∷ commands) = record { command = c; answer = 99 } ∷ unanswered commands
 
+-- the answers that a run has set: 01, 'sets each answer'
 unfoldable pub answersOf : List Entry → List ℕ
 answersOf [] = []
 answersOf (e ∷ entries) = e .answer ∷ answersOf entries
 
+-- not of 01: two lists of numbers compared, by which answers, registers and chain buffers are held against a case
 unfoldable pub sameNumbers : List ℕ → List ℕ → Bool
 sameNumbers [] [] = true
 sameNumbers [] (y ∷ ys) = false
@@ -31,6 +33,7 @@ sameNumbers (x ∷ xs) (y ∷ ys) = eqb x y && sameNumbers xs ys
 unfoldable pub buffer : Map → List ℕ
 buffer m = replicate (m .n) 9
 
+-- 01: 'the definitions give each result', of one case: every answer, the tally and every byte of what was lent
 unfoldable pub agrees : Case → Bool
 agrees (cut m commands answers removed added left) =
     let o = runOutcome (headerOf m) (bytesOf m) (unanswered commands) in
@@ -40,6 +43,7 @@ agrees (ask m j p answer chain) =
     let a = answered (headerOf m) (bytesOf m) j (code p) (buffer m) in
     eqb (a .answer) answer && eqb (a .offices) (length chain) && sameNumbers (a .chain) (chain ++ drop (length chain) (buffer m))
 
+-- 01: 'a list with a single statement that the definitions give each result': the statement, as a test of a list
 unfoldable pub allAgree : List Case → Bool
 allAgree [] = true
 allAgree (c ∷ cs) = agrees c && allAgree cs

@@ -6,6 +6,7 @@ use Rattle.rights.specs.declared.Command.{Command}
 use Rattle.rights.specs.Permission.{Permission, TT, TF, FT, FF, code}
 use Rattle.rights.specs.Maps.{Map, mapOf, mapA, mapB, mapC, mapD, mapE, mapF, mapG, mapH}
 
+-- one case of the list: the commands or the question on a map, and what is said to come of it
 pub data Case : Type 0 where
   -- commands in turn, with the tally of all of them
   cut : (on : Map) (commands : List Command) (answers : List ℕ) (removed added : ℕ) (leaves : Map) → Case
@@ -17,31 +18,39 @@ unfoldable pub command : ℕ → ℕ → ℕ → ℕ → Command
 command act i j perm =
     record { act = act; layer = record { 0 = 7 }; by = record { 0 = i }; to = record { 0 = j }; perm = perm }
 
+-- '0 grant', with the code of the permission: 'Perm is 1, 2, 4 or 8 for a grant'
 unfoldable pub GRANT : ℕ → ℕ → Permission → Command
 GRANT i j p = command 0 i j (code p)
 
+-- '1 WLD', with perm 0: 'Perm is .. 0 for a deletion'
 unfoldable pub WLD : ℕ → ℕ → Command
 WLD i j = command 1 i j 0
 
+-- '2 WGD', with perm 0
 unfoldable pub WGD : ℕ → ℕ → Command
 WGD i j = command 2 i j 0
 
+-- '3 SLD', with perm 0
 unfoldable pub SLD : ℕ → ℕ → Command
 SLD i j = command 3 i j 0
 
+-- '4 SGD', with perm 0
 unfoldable pub SGD : ℕ → ℕ → Command
 SGD i j = command 4 i j 0
 
--- what case 1, case 4 and the WLD of case 7 leave
+-- what case 1 leaves: '0→3 TF, 2→4 TF, 3→2 TF'
 unfoldable pub leftByOne : Map
 leftByOne = mapOf 5 ((0, 3, TF) ∷ (2, 4, TF) ∷ (3, 2, TF) ∷ [])
 
+-- what case 4 leaves: '0→1 TT, 0→3 TF, 1→4 TT, 2→4 TF, 3→2 TF'
 unfoldable pub leftByFour : Map
 leftByFour = mapOf 5 ((0, 1, TT) ∷ (0, 3, TF) ∷ (1, 4, TT) ∷ (2, 4, TF) ∷ (3, 2, TF) ∷ [])
 
+-- what the WLD of case 7 leaves: '0→2 TT, 2→1 TT'
 unfoldable pub leftBySeven : Map
 leftBySeven = mapOf 3 ((0, 2, TT) ∷ (2, 1, TT) ∷ [])
 
+-- 01: 'The starred cases go in a list'
 unfoldable pub cases : List Case
 cases =
     -- 1. 'A, WGD 0,1: 0→3 TF, 2→4 TF, 3→2 TF; removed 3, added 1.'

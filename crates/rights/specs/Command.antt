@@ -13,9 +13,11 @@ use Rattle.rights.specs.Sound.{barred, firstOf, unless, registerRefusal}
 use Rattle.rights.specs.Deletion.{granted, wld, wgd, sld, sgd}
 use Rattle.rights.specs.Tally.{missing}
 
+-- 01, 'A command has act, layer, by (i)': the number i
 abbrev pub byOf : Command → ℕ
 byOf c = c .by .0
 
+-- 01, 'by (i), to (j), perm': the number j
 abbrev pub toOf : Command → ℕ
 toOf c = c .to .0
 

@@ -50,9 +50,11 @@ levelsAmong h R allowed =
     let part = reached h R allowed TF (h .n) in
     table (h .n) (levelBy whole part)
 
+-- the offices that a chain may name where 01 says 'Level of j': all of them
 unfoldable pub everyOffice : ℕ → Bool
 everyOffice x = true
 
+-- the offices that a chain may name where 01 says 'chains before that do not name i'
 unfoldable pub otherThan : ℕ → ℕ → Bool
 otherThan i x = not (eqb x i)
 

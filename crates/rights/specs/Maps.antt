@@ -14,6 +14,7 @@ pub record Map : Type 0 where
   pub n : ℕ
   pub grants : List Grant
 
+-- not of 01: a map in one line, the number of offices and then its records, as 01 has it
 unfoldable pub mapOf : ℕ → List Grant → Map
 mapOf n grants = record { n = n; grants = grants }
 
@@ -33,12 +34,15 @@ drawn n (g ∷ grants) =
 unfoldable pub bytesOf : Map → List ℕ
 bytesOf m = drawn (m .n) (m .grants)
 
+-- 01: 'Map A, n=5: 0→1 TT, 0→3 TF, 1→2 TT, 2→4 TT, 3→2 TF.'
 unfoldable pub mapA : Map
 mapA = mapOf 5 ((0, 1, TT) ∷ (0, 3, TF) ∷ (1, 2, TT) ∷ (2, 4, TT) ∷ (3, 2, TF) ∷ [])
 
+-- 01: 'Map B, n=4: 0→1 TT, 1→2 TT, 1→3 TT, 3→2 TF.'
 unfoldable pub mapB : Map
 mapB = mapOf 4 ((0, 1, TT) ∷ (1, 2, TT) ∷ (1, 3, TT) ∷ (3, 2, TF) ∷ [])
 
+-- 01: 'Map C: the input above.' That is 'n=3, soa=0, layer=7, records 0→1, 1→2, 2→1 all TT'
 unfoldable pub mapC : Map
 mapC = mapOf 3 ((0, 1, TT) ∷ (1, 2, TT) ∷ (2, 1, TT) ∷ [])
 

@@ -52,7 +52,7 @@ stronger FT FT = false
 stronger FT FF = true
 stronger FF p = false
 
--- 01, 'a link .. carries p if the cell holds p or something stronger': q serves where p is read
+-- 01, 'A link .. carries p if the cell holds p or something stronger': q serves where p is read
 unfoldable pub serves : Permission → Permission → Bool
 serves q p = eqb (code q) (code p) || stronger q p
 

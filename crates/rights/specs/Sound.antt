@@ -47,6 +47,7 @@ unfoldable pub soundCell : Header → List ℕ → List ℕ → ℕ → ℕ → 
 soundCell h R ls i j =
     leb (cell h R i j) 15 && (not (barred h i j) || eqb (cell h R i j) 0) && eqb (restrict (cell h R i j) (levelIn ls i)) (cell h R i j)
 
+-- 01, 'Sound register': every cell is as it may stand, by the levels that are given for the grantors
 unfoldable pub soundBy : Header → List ℕ → List ℕ → Bool
 soundBy h R ls = allBelow (h .n) (λ i. allBelow (h .n) (λ j. soundCell h R ls i j))
 

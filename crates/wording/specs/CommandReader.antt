@@ -13,6 +13,7 @@ pub record CommandRead : Type 0 where
   pub next : ℕ
   pub rest : List ℕ
 
+-- 'a command of zeros'
 unfoldable pub noCommand : Command
 noCommand = record { act = 0; layer = record { 0 = 0 }; by = record { 0 = 0 }; to = record { 0 = 0 }; perm = 0 }
 

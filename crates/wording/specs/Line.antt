@@ -10,6 +10,7 @@ pub data After : Type 0 where
   after : List ℕ → After
   otherwise : After
 
+-- the word at the start of the text, byte for byte: 01, 'No other byte.' Keys, words and the end line are read by it
 unfoldable pub afterWord : List ℕ → List ℕ → After
 afterWord [] text = after text
 afterWord (w ∷ word) [] = otherwise

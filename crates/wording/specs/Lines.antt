@@ -17,6 +17,7 @@ pub data Reading (A : Type 0) : Type 0 where
   got : A → List ℕ → Reading A
   badAt : List ℕ → Reading A
 
+-- not of 01: what was read first put before the rest of what was read, by which lines and records are read one after the other
 unfoldable pub andBefore : {A : Type 0} → A → Reading (List A) → Reading (List A)
 andBefore a (got read rest) = got (a ∷ read) rest
 andBefore a (badAt line) = badAt line
@@ -43,12 +44,15 @@ allFit (k ∷ kinds) (v ∷ vs) = fits (form k) v && allFit kinds vs
 unfoldable pub headerLines : List Kind
 headerLines = nLine ∷ soaLine ∷ layerLine ∷ []
 
+-- n, SOA and layer, from the values of the header's lines in their order
 unfoldable pub headerOf : List ℕ → Header
 headerOf vs = record { n = getD vs 0 0; soa = record { 0 = getD vs 1 0 }; layer = record { 0 = getD vs 2 0 } }
 
+-- the values of the header's lines, in their order
 unfoldable pub headerValues : Header → List ℕ
 headerValues h = h .n ∷ h .soa .0 ∷ h .layer .0 ∷ []
 
+-- the header as text, the first part of 01's 'A register's text is header, rows 0 to n − 1, end.'
 unfoldable pub headerText : Header → List ℕ
 headerText h = linesText headerLines (headerValues h)
 
@@ -56,6 +60,7 @@ headerText h = linesText headerLines (headerValues h)
 unfoldable pub commandLines : List Kind
 commandLines = actLine ∷ layerLine ∷ byLine ∷ toLine ∷ permLine ∷ []
 
+-- a command, from the values of its five lines in their order
 unfoldable pub commandOf : List ℕ → Command
 commandOf vs =
     record {
@@ -66,8 +71,10 @@ commandOf vs =
       perm = getD vs 4 0;
     }
 
+-- the values of a command's five lines, in their order
 unfoldable pub commandValues : Command → List ℕ
 commandValues c = c .act ∷ c .layer .0 ∷ c .by .0 ∷ c .to .0 ∷ c .perm ∷ []
 
+-- a command as text: 'A command is five lines'
 unfoldable pub commandText : Command → List ℕ
 commandText c = linesText commandLines (commandValues c)

@@ -24,6 +24,8 @@ pub record Choice : Type 0 where
 pub data Kind : Type 0 where
   nLine soaLine layerLine actLine byLine toLine permLine : Kind
 
+-- 01: 'Header: `n=`, `soa=`, `layer=`. Then for each record `by=`, `to=`, `perm=`', and 'A command is five lines: `act=` .., `layer=`,
+-- `by=`, `to=`, `perm=`'
 unfoldable pub key : Kind → List ℕ
 key nLine = bytes "n="
 key soaLine = bytes "soa="
@@ -56,6 +58,7 @@ pub data Form : Type 0 where
   decimal : Form
   oneOf : List Choice → Form
 
+-- 01: `act=` and `perm=` have words, and every other line has one of the 'Text numbers: decimal, 0 to 65535'
 unfoldable pub form : Kind → Form
 form nLine = decimal
 form soaLine = decimal

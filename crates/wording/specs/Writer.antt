@@ -41,5 +41,6 @@ rowWritten h R i room = writtenBehind (rowRefusal h R i) room (rowText h R i)
 unfoldable pub headerWritten : Header → List ℕ → Written
 headerWritten h room = writtenBehind (unless (headed h) 1) room (headerText h)
 
+-- the end line's writer, which of the same rule has '14' alone
 unfoldable pub endWritten : List ℕ → Written
 endWritten room = writtenBehind 0 room endText

@@ -48,12 +48,13 @@ enum rights_act { RIGHTS_GRANT = 0, RIGHTS_WLD = 1, RIGHTS_WGD = 2, RIGHTS_SLD =
 /* The first letter is the right to pass on, the second the right to issue negatives. A cell is a sum of these. */
 enum rights_perm { RIGHTS_NONE = 0, RIGHTS_FF = 1, RIGHTS_FT = 2, RIGHTS_TF = 4, RIGHTS_TT = 8 };
 
-/* Sizes that are always enough: offices of a register, commands of a run, the text of a header, of a row, of the end line. */
+/* Sizes that are always enough: offices of a register, commands of a run, the text of a header, of a row, of the end line. Those of
+ * header and row are proved bounds (`header-short` and `row-short`). */
 enum rights_most {
     RIGHTS_OFFICES = 128,
     RIGHTS_RUN = 256,
     RIGHTS_HEADER_TEXT = 26,
-    RIGHTS_ROW_TEXT = 10736,
+    RIGHTS_ROW_TEXT = 11264,
     RIGHTS_END_TEXT = 13
 };
 

@@ -28,11 +28,11 @@ pub const MOST_OFFICES: usize = 128;
 /// Most commands of a run.
 pub const LONGEST_RUN: usize = 256;
 
-/// Room that is enough for the text of any header.
+/// Room that is enough for the text of any header, as the theorem `header-short` says.
 pub const HEADER_TEXT: usize = 26;
 
-/// Room that is enough for the text of any row.
-pub const ROW_TEXT: usize = 10_736;
+/// Room that is enough for the text of any row, as the theorem `row-short` says.
+pub const ROW_TEXT: usize = 11_264;
 
 /// The length of the end line.
 pub const END_TEXT: usize = 13;

@@ -42,8 +42,10 @@ fn a_refused_text_says_where() {
     assert_eq!((refused.refusal, refused.at), (Refusal::NotOfTheForm, 16));
 }
 
-/// SOA as the last of 128 offices with every permission granted to all others has the longest row
-/// there can be.
+/// The length of the longest row that there is, which is below the proved bound: by SOA, as the last
+/// of 128 offices, to all others, with every permission.
+const LONGEST_ROW: usize = 10_736;
+
 #[test]
 fn the_longest_row_fits_its_room() {
     let soa = Office(127);
@@ -53,7 +55,9 @@ fn the_longest_row_fits_its_room() {
     cells[127 * 128..].fill(15);
     cells[127 * 128 + 127] = 0;
     let mut room = [0; ROW_TEXT];
-    assert_eq!(write_row(&cells, header, soa, &mut room), Ok(ROW_TEXT));
-    let short = write_row(&cells, header, soa, &mut room[1..]);
+    assert_eq!(write_row(&cells, header, soa, &mut room), Ok(LONGEST_ROW));
+    let exact = write_row(&cells, header, soa, &mut room[..LONGEST_ROW]);
+    assert_eq!(exact, Ok(LONGEST_ROW));
+    let short = write_row(&cells, header, soa, &mut room[..LONGEST_ROW - 1]);
     assert_eq!(short, Err(Refusal::TooLittleRoom));
 }

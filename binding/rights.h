@@ -70,6 +70,9 @@ typedef struct { uint16_t n; rights_office_t soa; rights_layer_t layer; } rights
 /* perm is 1, 2, 4 or 8 for a grant and 0 for a deletion. */
 typedef struct { uint8_t act; rights_layer_t layer; rights_office_t by; rights_office_t to; uint8_t perm; } rights_command_t;
 
+/* No command answers with this. Put in the place for an answer before a run, it still stands there after a run that was refused. */
+enum rights_place { RIGHTS_UNANSWERED = 255 };
+
 /* A command of a run, with the place for its answer. */
 typedef struct { rights_command_t command; uint8_t answer; } rights_entry_t;
 

@@ -34,7 +34,7 @@ fn command_lent(command: Command) -> binding::Command {
 fn entry_lent(entry: &Entry) -> binding::Entry {
     binding::Entry {
         command: command_lent(entry.command),
-        answer: entry.answer,
+        answer: binding::Answer::from_byte(entry.answer),
     }
 }
 
@@ -66,7 +66,7 @@ pub fn run(cells: &mut [u8], header: Header, entries: &mut [Entry]) -> Ran {
     let mut lent: Vec<binding::Entry> = entries.iter().map(entry_lent).collect();
     let ran = raw::run(cells, header_lent(header), &mut lent);
     for (entry, lent) in entries.iter_mut().zip(&lent) {
-        entry.answer = lent.answer;
+        entry.answer = lent.answer.byte();
     }
     Ran {
         answer: ran.answer,

@@ -2,7 +2,7 @@
 
 use crate::maps::{Map, PERMS};
 use crate::random::Random;
-use rights_register::{Command, Entry, Layer, Office};
+use rights_register::{Answer, Command, Entry, Layer, Office};
 
 /// A command to the register, most often one that is carried out.
 pub fn command(random: &mut Random, map: &Map) -> Command {
@@ -85,7 +85,7 @@ pub fn entries(random: &mut Random, map: &Map, many: usize) -> Vec<Entry> {
     (0..many)
         .map(|_| Entry {
             command: command(random, map),
-            answer: random.byte(),
+            answer: Answer::from_byte(random.byte()),
         })
         .collect()
 }

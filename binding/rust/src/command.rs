@@ -60,6 +60,42 @@ impl Command {
     }
 }
 
+/// The place for the answer to a command of a run: one byte, which says nothing until a run sets it.
+#[repr(transparent)]
+#[derive(Clone, Copy, Debug, PartialEq, Eq, Hash)]
+pub struct Answer(u8);
+
+impl Answer {
+    /// What stands in the place before a run. No command answers with it.
+    pub const UNANSWERED: Answer = Answer(255);
+
+    /// The place with any byte in it, as memory that comes from C may have.
+    pub fn from_byte(byte: u8) -> Answer {
+        Answer(byte)
+    }
+
+    /// The byte as it stands.
+    pub fn byte(self) -> u8 {
+        self.0
+    }
+
+    /// Done or the refusal; none for a byte that no command answers with, as commands check 1 to
+    /// 10 alone.
+    pub fn outcome(self) -> Option<Result<(), Refusal>> {
+        match self.0 {
+            0 => Some(Ok(())),
+            number @ 1..=10 => Refusal::from_number(number).map(Err),
+            _ => None,
+        }
+    }
+}
+
+impl Default for Answer {
+    fn default() -> Answer {
+        Answer::UNANSWERED
+    }
+}
+
 /// A command of a run, with the place for its answer. Whatever stands there before the run is
 /// overwritten, unless the run is refused.
 #[repr(C)]
@@ -67,18 +103,19 @@ impl Command {
 pub struct Entry {
     /// The command.
     pub command: Command,
-    /// 0 or the number of the command's refusal, once the run is done.
-    pub answer: u8,
+    /// The place for the answer.
+    pub answer: Answer,
 }
 
 impl Entry {
     /// An entry of a run that is still to be done.
     pub fn new(command: Command) -> Entry {
-        Entry { command, answer: 0 }
+        let answer = Answer::UNANSWERED;
+        Entry { command, answer }
     }
 
-    /// What the run answered to this command.
-    pub fn outcome(self) -> Result<(), Refusal> {
-        Refusal::unless_done(self.answer)
+    /// What the last run that was not refused answered to this command; none before there is one.
+    pub fn outcome(self) -> Option<Result<(), Refusal>> {
+        self.answer.outcome()
     }
 }

@@ -18,7 +18,7 @@ mod refusal;
 pub use calls::{command, holding, run};
 pub use calls::{read_command, read_register, register_text, write_end, write_header, write_row};
 pub use calls::{Chain, ReadCommand, ReadRegister};
-pub use command::{Command, Entry};
+pub use command::{Answer, Command, Entry};
 pub use names::{Act, Header, Layer, Office, Perm, Permission, Tally};
 pub use refusal::{Refusal, RefusedText};
 

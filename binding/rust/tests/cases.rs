@@ -2,7 +2,8 @@
 
 use rights_register::Permission::{FF, FT, TF, TT};
 use rights_register::{command, holding, register_text, run};
-use rights_register::{Command, Entry, Header, Layer, Office, Perm, Permission, Refusal, Tally};
+use rights_register::{Answer, Command, Entry, Header, Layer, Office};
+use rights_register::{Perm, Permission, Refusal, Tally};
 
 type Record = (u16, u16, Permission);
 type Deletion = fn(Layer, Office, Office) -> Command;
@@ -153,13 +154,14 @@ fn case_10_runs() {
 
     let mut whole = entries(256);
     let told = run(&mut map.cells, map.header, &mut whole).unwrap();
-    assert_eq!(whole[0].outcome(), Err(Refusal::RecordStands));
-    assert!(whole[1..].iter().all(|entry| entry.outcome() == Ok(())));
+    assert_eq!(whole[0].outcome(), Some(Err(Refusal::RecordStands)));
+    let mut later = whole[1..].iter();
+    assert!(later.all(|entry| entry.outcome() == Some(Ok(()))));
     let mut one_by_one = map_a();
     let mut sum = Tally::default();
     for entry in &whole {
         let one = command(&mut one_by_one.cells, map.header, entry.command);
-        assert_eq!(one.err(), entry.outcome().err());
+        assert_eq!(Some(one.map(drop)), entry.outcome());
         let one = one.unwrap_or_default();
         sum.removed += one.removed;
         sum.added += one.added;
@@ -169,7 +171,25 @@ fn case_10_runs() {
     let (mut map, mut long) = (map_a(), entries(257));
     let told = run(&mut map.cells, map.header, &mut long);
     assert_eq!(told, Err(Refusal::RunTooLong));
-    assert_eq!((map.cells, long), (map_a().cells, entries(257)));
+    assert_eq!((map.cells, &long), (map_a().cells, &entries(257)));
+    assert!(long.iter().all(|entry| entry.outcome().is_none()));
+}
+
+/// Commands answer 0 to 10. A place with any other byte was set by none.
+#[test]
+fn every_byte_in_the_place_for_an_answer_has_its_meaning() {
+    for byte in 0..=255 {
+        let outcome = match byte {
+            0 => Some(Ok(())),
+            1..=10 => Some(Err(Refusal::ALL[usize::from(byte) - 1])),
+            _ => None,
+        };
+        assert_eq!(Answer::from_byte(byte).outcome(), outcome);
+        assert_eq!(Answer::from_byte(byte).byte(), byte);
+    }
+    let command = Command::wgd(LAYER, Office(0), Office(1));
+    assert_eq!(Entry::new(command).outcome(), None);
+    assert_eq!(Entry::default().outcome(), None);
 }
 
 #[test]
@@ -182,7 +202,7 @@ fn case_10_sizes() {
         assert_eq!(told, Err(Refusal::SizeOrSource));
         let mut one = entries(1);
         assert_eq!(run(&mut map.cells, map.header, &mut one), tally(0, 0));
-        assert_eq!(one[0].outcome(), Err(Refusal::SizeOrSource));
+        assert_eq!(one[0].outcome(), Some(Err(Refusal::SizeOrSource)));
     }
 }
 

@@ -2,7 +2,8 @@
 //! here.
 
 use rights_register::raw::{CommandRead, Held, Outcome, Ran, RegisterRead, Written};
-use rights_register::{Act, Command, Entry, Header, Layer, Office, Permission, Refusal, Tally};
+use rights_register::{Act, Answer, Command, Entry, Header};
+use rights_register::{Layer, Office, Permission, Refusal, Tally};
 use rights_register::{END_TEXT, HEADER_TEXT, LONGEST_RUN, MOST_OFFICES, ROW_TEXT};
 use std::mem::{offset_of, size_of};
 
@@ -93,4 +94,6 @@ fn acts_permissions_and_sizes_have_the_numbers_of_the_header() {
     header_numbers("RIGHTS_HEADER_TEXT", HEADER_TEXT);
     header_numbers("RIGHTS_ROW_TEXT", ROW_TEXT);
     header_numbers("RIGHTS_END_TEXT", END_TEXT);
+    let unanswered = usize::from(Answer::UNANSWERED.byte());
+    header_numbers("RIGHTS_UNANSWERED", unanswered);
 }

@@ -4,7 +4,7 @@ use super::shown;
 use crate::calls::Call;
 use crate::maps::Map;
 use crate::told::{Seen, Told};
-use rights_register::{raw, Command, Entry};
+use rights_register::{raw, Answer, Command, Entry};
 
 fn of_second(map: &Map, cells: &mut [u8], command: &Command) -> second::Outcome {
     let header = map.header;
@@ -47,7 +47,7 @@ fn flat(entries: &[Entry]) -> impl Iterator<Item = u64> + '_ {
     entries.iter().flat_map(|entry| {
         let Entry { command, answer } = entry;
         let numbers = [command.layer.0, command.by.0, command.to.0].map(u64::from);
-        let bytes = [command.act, command.perm, *answer].map(u64::from);
+        let bytes = [command.act, command.perm, answer.byte()].map(u64::from);
         numbers.into_iter().chain(bytes)
     })
 }
@@ -69,7 +69,7 @@ fn run_of_second(map: &Map, entries: &[Entry]) -> Seen {
         by: entry.command.by.0,
         to: entry.command.to.0,
         perm: entry.command.perm,
-        answer: entry.answer,
+        answer: entry.answer.byte(),
     });
     let mut lent: Vec<second::Entry> = lent.collect();
     let (n, soa, layer) = (header.n, header.soa.0, header.layer.0);
@@ -88,7 +88,7 @@ fn entry_of_second(entry: &second::Entry) -> Entry {
             to: rights_register::Office(entry.to),
             perm: entry.perm,
         },
-        answer: entry.answer,
+        answer: Answer::from_byte(entry.answer),
     }
 }
 
@@ -98,7 +98,7 @@ fn one_by_one(map: &Map, entries: &[Entry]) -> Seen {
     let mut tally = [0; 2];
     for entry in &mut entries {
         let outcome = raw::command(&mut cells, map.header, entry.command);
-        entry.answer = outcome.answer;
+        entry.answer = Answer::from_byte(outcome.answer);
         tally[0] += u64::from(outcome.removed);
         tally[1] += u64::from(outcome.added);
     }

@@ -33,7 +33,7 @@ fn started(program: &Path) -> io::Result<Child> {
         .spawn()
 }
 
-/// The output, and whether the program ended by itself. The input is fed beside the reading, so
+/// The output, and whether the program's exit status was 0. The input is fed beside the reading, so
 /// that neither waits for the other.
 fn output(program: &Path, input: &[u8], parts: usize) -> io::Result<(Vec<u8>, bool)> {
     let mut child = started(program)?;
@@ -45,7 +45,7 @@ fn output(program: &Path, input: &[u8], parts: usize) -> io::Result<(Vec<u8>, bo
         from.read_to_end(&mut output)?;
         feeding.join().expect("feeding does not panic")
     })?;
-    Ok((output, child.wait()?.code().is_some()))
+    Ok((output, child.wait()?.code() == Some(0)))
 }
 
 /// The number of the last `refused=` line, or 0: then the register was written.
@@ -61,14 +61,14 @@ fn answer(output: &[u8]) -> u8 {
 }
 
 /// Runs the program on the input, in so many parts, and compares its whole output with the second
-/// program's.
+/// program's. The exit status must be 0, whatever was refused.
 pub fn regrun(told: &mut Told, program: &Path, input: &[u8], parts: usize) -> Vec<u8> {
     let theirs = second::regrun(input);
-    let (ours, ended) = output(program, input, parts)
+    let (ours, done) = output(program, input, parts)
         .unwrap_or_else(|error| panic!("{}: {error}", program.display()));
-    let seen = |output: &[u8], ended: bool| Seen {
+    let seen = |output: &[u8], done: bool| Seen {
         answer: answer(output),
-        numbers: vec![ended.into()],
+        numbers: vec![done.into()],
         buffers: vec![output.to_vec()],
     };
     let input = || {
@@ -81,7 +81,7 @@ pub fn regrun(told: &mut Told, program: &Path, input: &[u8], parts: usize) -> Ve
     };
     told.judge(
         Call::Program,
-        &seen(&ours, ended),
+        &seen(&ours, done),
         &seen(&theirs, true),
         input,
     );

@@ -1,6 +1,7 @@
 //! The worked cases of 01, on both sides and against what 01 says.
 
 use crate::compare::commands::{command, run};
+use crate::compare::lent::part_of;
 use crate::compare::questions::holding;
 use crate::maps::{Map, FF, FT, TF, TT};
 use crate::told::{Seen, Told};
@@ -94,7 +95,7 @@ fn chains(told: &mut Told) {
     let asked = |told: &mut Told, a: &Map, office, perm, chain: &[u8]| {
         let seen = holding(told, a, office, perm, &[99; 5]);
         says(told, 8, seen.numbers == [chain.len() as u64]);
-        says(told, 8, seen.buffers[0].starts_with(chain));
+        says(told, 8, part_of(&seen.buffers[0]).starts_with(chain));
         seen.answer
     };
     asked(told, &a, 4, TF, &[0, 1, 2, 4]);

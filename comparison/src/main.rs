@@ -1,6 +1,6 @@
 //! The proved library, called through its binding, beside the second program: both are given the
-//! same inputs, and every answer, tally, chain, header, offset and byte of what they were lent is
-//! compared.
+//! same inputs, and every answer, tally, chain, header, offset and byte of what they were lent, or of
+//! what stands beside it, is compared.
 //!
 //!     comparison [--seed S] [--count ROUNDS] [--first ROUND] [--regrun PROGRAM]
 //!

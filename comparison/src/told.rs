@@ -3,7 +3,7 @@
 use crate::calls::{Call, CALLS};
 
 /// All that a caller sees of one call: the answer, the other numbers given, and every byte that was
-/// lent.
+/// lent or stood beside.
 #[derive(Debug, PartialEq, Eq)]
 pub struct Seen {
     pub answer: u8,

@@ -1,5 +1,6 @@
 //! Commands and runs.
 
+use super::lent::{kept, Lent};
 use super::shown;
 use crate::calls::Call;
 use crate::maps::Map;
@@ -29,13 +30,15 @@ pub fn command(told: &mut Told, map: &mut Map, command: Command) -> Seen {
     let theirs = Seen {
         answer: outcome.answer,
         numbers: vec![outcome.removed.into(), outcome.added.into()],
-        buffers: vec![cells],
+        buffers: vec![kept(&cells)],
     };
-    let outcome = raw::command(&mut map.cells, map.header, command);
+    let mut cells = Lent::of(&map.cells);
+    let outcome = raw::command(cells.part(), map.header, command);
+    map.cells.copy_from_slice(cells.part());
     let ours = Seen {
         answer: outcome.answer,
         numbers: vec![outcome.removed.into(), outcome.added.into()],
-        buffers: vec![map.cells.clone()],
+        buffers: vec![cells.whole()],
     };
     let input = || format!("{command:?} to {}", shown(&before));
     told.judge(Call::Command, &ours, &theirs, input);
@@ -60,6 +63,11 @@ fn run_seen(answer: u8, tally: [u64; 2], entries: &[Entry], cells: Vec<u8>) -> S
     }
 }
 
+/// A run that kept to the entries and the cells.
+fn run_kept(answer: u8, tally: [u64; 2], entries: &[Entry], cells: &[u8]) -> Seen {
+    run_seen(answer, tally, &kept(entries), kept(cells))
+}
+
 fn run_of_second(map: &Map, entries: &[Entry]) -> Seen {
     let header = map.header;
     let mut cells = map.cells.clone();
@@ -76,7 +84,7 @@ fn run_of_second(map: &Map, entries: &[Entry]) -> Seen {
     let ran = second::run(&mut cells, n, soa, layer, &mut lent);
     let after: Vec<Entry> = lent.iter().map(entry_of_second).collect();
     let tally = [ran.removed.into(), ran.added.into()];
-    run_seen(ran.answer, tally, &after, cells)
+    run_kept(ran.answer, tally, &after, &cells)
 }
 
 fn entry_of_second(entry: &second::Entry) -> Entry {
@@ -94,30 +102,30 @@ fn entry_of_second(entry: &second::Entry) -> Entry {
 
 /// What the same commands do one by one, through the binding.
 fn one_by_one(map: &Map, entries: &[Entry]) -> Seen {
-    let (mut cells, mut entries) = (map.cells.clone(), entries.to_vec());
+    let (mut cells, mut entries) = (Lent::of(&map.cells), entries.to_vec());
     let mut tally = [0; 2];
     for entry in &mut entries {
-        let outcome = raw::command(&mut cells, map.header, entry.command);
+        let outcome = raw::command(cells.part(), map.header, entry.command);
         entry.answer = Answer::from_byte(outcome.answer);
         tally[0] += u64::from(outcome.removed);
         tally[1] += u64::from(outcome.added);
     }
-    run_seen(0, tally, &entries, cells)
+    run_seen(0, tally, &kept(&entries), cells.whole())
 }
 
-/// Runs the entries on both sides, and compares a run that is not refused with its commands one by
-/// one too.
+/// Runs the entries on both sides, and compares the run with its commands one by one too, or one of
+/// more than 256 with nothing done.
 pub fn run(told: &mut Told, map: &Map, entries: &[Entry]) -> Seen {
-    let (mut cells, mut lent) = (map.cells.clone(), entries.to_vec());
-    let ran = raw::run(&mut cells, map.header, &mut lent);
+    let (mut cells, mut lent) = (Lent::of(&map.cells), Lent::of(entries));
+    let ran = raw::run(cells.part(), map.header, lent.part());
     let tally = [ran.tally.removed, ran.tally.added];
-    let ours = run_seen(ran.answer, tally, &lent, cells);
+    let ours = run_seen(ran.answer, tally, &lent.whole(), cells.whole());
     let theirs = run_of_second(map, entries);
     let input = || format!("{entries:?} on {}", shown(map));
     told.judge(Call::Run, &ours, &theirs, input);
     let singly = match entries.len() {
         0..=256 => one_by_one(map, entries),
-        _ => run_seen(16, [0; 2], entries, map.cells.clone()),
+        _ => run_kept(16, [0; 2], entries, &map.cells),
     };
     told.same(ours == singly, || {
         format!("run and one by one: {}", input())

@@ -1,6 +1,7 @@
 //! One call on both sides with the same input, and everything that the caller then sees compared.
 
 pub mod commands;
+pub mod lent;
 pub mod program;
 pub mod questions;
 pub mod readers;

@@ -1,5 +1,6 @@
 //! The readers of register text and command text.
 
+use super::lent::{kept, Lent};
 use crate::calls::Call;
 use crate::told::{Seen, Told};
 use rights_register::raw;
@@ -13,16 +14,16 @@ pub fn register(told: &mut Told, text: &[u8], buffer: &[u8]) -> Seen {
     let theirs = Seen {
         answer: read.answer,
         numbers: [&places[..], &header].concat(),
-        buffers: vec![cells, text.to_vec()],
+        buffers: vec![kept(&cells), kept(text)],
     };
-    let mut cells = buffer.to_vec();
-    let read = raw::read_register(text, &mut cells);
+    let (mut cells, mut lent) = (Lent::of(buffer), Lent::of(text));
+    let read = raw::read_register(lent.part(), cells.part());
     let header = [read.header.n, read.header.soa.0, read.header.layer.0].map(u64::from);
     let places = [read.at as u64, read.next as u64];
     let ours = Seen {
         answer: read.answer,
         numbers: [&places[..], &header].concat(),
-        buffers: vec![cells, text.to_vec()],
+        buffers: vec![cells.whole(), lent.whole()],
     };
     told.judge(Call::RegisterReader, &ours, &theirs, || {
         let room = buffer.len();
@@ -40,9 +41,10 @@ pub fn command(told: &mut Told, text: &[u8]) -> usize {
     let theirs = Seen {
         answer: read.answer,
         numbers: [&places[..], &numbers, &codes].concat(),
-        buffers: vec![],
+        buffers: vec![kept(text)],
     };
-    let read = raw::read_command(text);
+    let mut lent = Lent::of(text);
+    let read = raw::read_command(lent.part());
     let command = read.command;
     let places = [read.at as u64, read.next as u64];
     let numbers = [command.layer.0, command.by.0, command.to.0].map(u64::from);
@@ -50,7 +52,7 @@ pub fn command(told: &mut Told, text: &[u8]) -> usize {
     let ours = Seen {
         answer: read.answer,
         numbers: [&places[..], &numbers, &codes].concat(),
-        buffers: vec![],
+        buffers: vec![lent.whole()],
     };
     told.judge(Call::CommandReader, &ours, &theirs, || {
         format!("\"{}\"", text.escape_ascii())

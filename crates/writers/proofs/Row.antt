@@ -28,7 +28,7 @@ perm-size FT = refl
 perm-size FF = refl
 
 record-size : (i j : ℕ) (p : Permission) → length (pairText i j ++ permText p) ≡ 16 + length (numeral i) + length (numeral j)
-unfolding pairText numberLine
+unfolding pairText numberLine key
 record-size i j p = simp length-append (omega (arith, perm-size p))
 
 -- a record that stands is its three lines, and one that does not is nothing

@@ -4,14 +4,14 @@ use mathlib.Core.List.{List, _++_}
 use Rattle.rights.specs.declared.Header.{Header}
 use Rattle.rights.specs.Permission.{Permission, code}
 use Rattle.rights.specs.Register.{cell}
-use Rattle.wording.specs.Word.{bytes, permLine}
+use Rattle.wording.specs.Word.{byLine, toLine, permLine, key}
 use Rattle.wording.specs.Line.{lineText}
 use Rattle.wording.specs.Records.{recordsText, joined, recordOf, cellRecords}
 use Rattle.printing.specs.NumberLine.{numberLine}
 
 -- a record's lines `by=` and `to=`
 unfoldable pub pairText : ℕ → ℕ → List ℕ
-pairText i j = numberLine (bytes "by=") i ++ numberLine (bytes "to=") j
+pairText i j = numberLine (key byLine) i ++ numberLine (key toLine) j
 
 -- a record's line `perm=`
 unfoldable pub permText : Permission → List ℕ

@@ -1,6 +1,7 @@
 -- `writers::put_pair` meets its contract: what is written into the part stands in the room. Assumes nothing.
 use native.Mathlib.Omega.{arith}
 use borrow.Author.Needs.{needs}
+use Rattle.wording.specs.Word.{key}
 use Rattle.printing.proofs.Told.{told-part}
 use Rattle.writers.specs.Row.{pairText}
 use Rattle.writers.proofs.put_pair.Statement.{statement}
@@ -31,7 +32,7 @@ write-two-requires : tie.Need-write-two-requires
 write-two-requires c κs = tt
 
 add-result : tie.Need-add-result
-unfolding pairText
+unfolding pairText key
 add-result c =
     let start = c .before .before .before .before .before .before .before .before .before .before in
     omega (arith, start .pre .enough, told-part (start .args .at) (start .pre) (c .before .before .before .write-two .ensures) .ends)
@@ -40,7 +41,7 @@ same-length : tie.Need-same-length
 same-length c = search needs
 
 returns : tie.Need-returns
-unfolding pairText
+unfolding pairText key
 returns c = let start = c .before .before .before .before .before .before .before .before .before .before in told-part (start .args .at) (start .pre) (c .before .before .before .write-two .ensures)
 
 pub put-pair-spec : {M : Type 1} → statement M

@@ -43,7 +43,7 @@ returns-2 : tie.Need-returns-2
 returns-2 c =
     let start = c .before .before .before in
     handed-own (start .args .header) (start .args .before .now) (start .args .cells .now) (start .args .i .0) (start .args .j .0)
-    (start .args .k .0) (c .if1 .left)
+    (start .args .k .0) (start .pre) (c .if1 .left)
 
 pub hand-cell-spec : {M : Type 1} → statement M
 hand-cell-spec =

@@ -12,7 +12,7 @@ use Rattle.rights.specs.Below.{anyBelow}
 use Rattle.rights.specs.Permission.{Permission, TT, TF, FT, FF, code}
 use Rattle.rights.specs.Cell.{has}
 use Rattle.rights.specs.Register.{cell}
-use Rattle.wording.specs.Records.{Record, joined, recordOf, cellRecords, rowRecords}
+use Rattle.wording.specs.Records.{Record, joined, recordOf, cellRecords, rowRecordsUpTo, rowRecords}
 use Rattle.wording.proofs.Below.{any-at}
 use Rattle.wording.proofs.Cell.{code-is-code}
 use Rattle.wording.proofs.Order.{rank, Ascending, none, more, ascending-append, stands, stands-append}
@@ -55,7 +55,7 @@ cell-ascending i j c hi hj =
     (record-ascending i j c FF (start i j + 14) (start i (suc j)) hi hj (omega arith) (omega arith))))
 
 row-ascending : (h : Header) (R : List ℕ) (i : ℕ) → h .n ≤ 65536 → i < h .n → Ascending (h .n) (start i 0) (start (suc i) 0) (rowRecords h R i)
-unfolding rowRecords
+unfolding rowRecordsUpTo rowRecords
 row-ascending h R i small hi =
     ascending-to (start (suc i) 0) (omega arith)
     (joined-ascending (h .n) (λ j. cellRecords i j (cell h R i j)) (start i) (λ j hj. cell-ascending i j (cell h R i j) hi hj))
@@ -105,7 +105,7 @@ stands-cell x y c i j q = simp (stands-append, stands-record) (go (eqb i x) (eqb
 
 -- what stands in the list of a register is what stands in its cells
 pub stands-all : (h : Header) (R : List ℕ) (i j : ℕ) (q : Permission) → i < h .n → j < h .n → stands (allRecords h R) i j (code q) ≡ has (cell h R i j) q
-unfolding allRecords rowRecords
+unfolding allRecords rowRecordsUpTo rowRecords
 stands-all h R i j q hi hj =
     stands-joined (h .n) (rowRecords h R) i j (code q)
     ∙ any-at (h .n) (λ x. stands (rowRecords h R x) i j (code q)) i hi other-row

@@ -13,7 +13,7 @@ use Rattle.rights.specs.Sound.{headed}
 use Rattle.wording.specs.Word.{Kind, key, form, perms, wordFor}
 use Rattle.wording.specs.Line.{wordOf, lineText}
 use Rattle.wording.specs.Lines.{linesText, headerLines, headerValues, headerText}
-use Rattle.wording.specs.Records.{recordText, recordsText, joined, recordOf, cellRecords, rowRecords, rowText}
+use Rattle.wording.specs.Records.{recordText, recordsText, joined, recordOf, cellRecords, rowRecordsUpTo, rowRecords, rowText}
 use Rattle.theory.proofs.Ready.{headed-high, headed-inside}
 use Rattle.wording.proofs.Digits.{few-digits}
 use Rattle.wording.proofs.Content.{records-text-append}
@@ -57,7 +57,7 @@ cells-short (suc m) i c hi hm =
 
 -- the text of a row
 pub row-short : (h : Header) (R : List ℕ) (i : ℕ) → headed h ≡ true → i < h .n → length (rowText h R i) ≤ 11264
-unfolding rowText rowRecords
+unfolding rowText rowRecordsUpTo rowRecords
 row-short h R i head hi =
     let small = headed-high h head in
     omega (arith, cells-short (h .n) i (cell h R i) (omega arith) (omega arith))

@@ -80,9 +80,12 @@ recordOf i j c p = cond (has c p) (record { by = i; to = j; perm = code p } ∷ 
 unfoldable pub cellRecords : ℕ → ℕ → ℕ → List Record
 cellRecords i j c = recordOf i j c TT ++ (recordOf i j c TF ++ (recordOf i j c FT ++ recordOf i j c FF))
 
--- the records of row i
+-- the records of row i to the subjects below m, and all of them
+unfoldable pub rowRecordsUpTo : Header → List ℕ → ℕ → ℕ → List Record
+rowRecordsUpTo h R i m = joined m (λ j. cellRecords i j (cell h R i j))
+
 unfoldable pub rowRecords : Header → List ℕ → ℕ → List Record
-rowRecords h R i = joined (h .n) (λ j. cellRecords i j (cell h R i j))
+rowRecords h R i = rowRecordsUpTo h R i (h .n)
 
 unfoldable pub rowText : Header → List ℕ → ℕ → List ℕ
 rowText h R i = recordsText (rowRecords h R i)

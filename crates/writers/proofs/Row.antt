@@ -14,7 +14,7 @@ use Rattle.rights.specs.Register.{cell}
 use Rattle.theory.proofs.Cell.{cond-le}
 use Rattle.wording.specs.Word.{key, form, perms, wordFor}
 use Rattle.wording.specs.Line.{numeral, wordOf, lineText}
-use Rattle.wording.specs.Records.{recordText, recordsText, joined, recordOf, cellRecords, rowRecords, rowText}
+use Rattle.wording.specs.Records.{recordText, recordsText, joined, recordOf, cellRecords, rowRecordsUpTo, rowRecords, rowText}
 use Rattle.wording.proofs.Content.{records-text-append}
 use Rattle.printing.specs.Put.{Room}
 use Rattle.printing.specs.NumberLine.{numberLine}
@@ -64,11 +64,11 @@ few-records c = omega (arith, cond-le (has c TT) 1, cond-le (has c TF) 1, cond-l
 
 -- the text so far: none, one cell more, all
 pub row-none : (h : Header) (R : List ℕ) (i : ℕ) → rowUpTo h R i 0 ≡ []
-unfolding rowUpTo joined recordsText
+unfolding rowUpTo rowRecordsUpTo joined recordsText
 row-none h R i = refl
 
 pub row-more : (h : Header) (R : List ℕ) (i m : ℕ) → rowUpTo h R i (m + 1) ≡ rowUpTo h R i m ++ cellText i m (cell h R i m)
-unfolding rowUpTo joined cellText
+unfolding rowUpTo rowRecordsUpTo joined cellText
 row-more h R i m = rw (add-one, joined) (records-text-append _ _)
 
 pub row-all : (h : Header) (R : List ℕ) (i m : ℕ) → m ≡ h .n → rowUpTo h R i m ≡ rowText h R i

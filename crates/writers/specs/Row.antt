@@ -3,10 +3,9 @@ use Prim.Native.Nat.{ℕ}
 use mathlib.Core.List.{List, _++_}
 use Rattle.rights.specs.declared.Header.{Header}
 use Rattle.rights.specs.Permission.{Permission, code}
-use Rattle.rights.specs.Register.{cell}
 use Rattle.wording.specs.Word.{byLine, toLine, permLine, key}
 use Rattle.wording.specs.Line.{lineText}
-use Rattle.wording.specs.Records.{recordsText, joined, recordOf, cellRecords}
+use Rattle.wording.specs.Records.{recordsText, recordOf, cellRecords, rowRecordsUpTo}
 use Rattle.printing.specs.NumberLine.{numberLine}
 
 -- a record's lines `by=` and `to=`
@@ -27,4 +26,4 @@ cellText i j c = recordsText (cellRecords i j c)
 
 -- the text of row i up to the subject m
 unfoldable pub rowUpTo : Header → List ℕ → ℕ → ℕ → List ℕ
-rowUpTo h R i m = recordsText (joined m (λ j. cellRecords i j (cell h R i j)))
+rowUpTo h R i m = recordsText (rowRecordsUpTo h R i m)

@@ -12,11 +12,10 @@ use Rattle.rights.specs.Permission.{Permission, decoded}
 use Rattle.rights.specs.Register.{soaOf}
 use Rattle.rights.specs.Level.{holds}
 use Rattle.rights.specs.Sound.{firstOf, unless, registerRefusal}
-use Rattle.rights.specs.Question.{Answer, single, fewestLinks, smallest, pickedChain, shown, notShown, answered, fewestInto}
+use Rattle.rights.specs.Question.{Answer, single, fewestLinks, smallest, pickedChain, questionFormRefusal, questionRefusal, shown, notShown, answered, fewestInto}
 use Rattle.theory.proofs.Picked.{picked-length, fewest-test}
 use Rattle.levels.specs.Padded.{padded}
-use Rattle.questions.specs.Step.{formRefusal, searched, outcomeOf}
-use Rattle.questions.proofs.Refusals.{in-order}
+use Rattle.questions.specs.Step.{searched, outcomeOf}
 use Rattle.questions.proofs.Sets.{smallest-padded, fewest-padded}
 
 -- the parts of an outcome
@@ -51,21 +50,21 @@ module _ (h : Header) (R : List ℕ) (p : Permission) (j : ℕ) (inside : soaOf 
 module _ (h : Header) (R : List ℕ) (j perm : ℕ) (buffer : List ℕ) where
   -- the register is refused
   pub answered-register : (number : ℕ) → number ≡ registerRefusal h R → (number ≡ 0 → ⊥) → outcomeOf number 0 buffer ≡ answered h R j perm buffer
-  unfolding answered notShown firstOf
-  answered-register number e some = rw (in-order h R j perm (length buffer), ← e, ne-eqb number 0 some, ne-eqb number 0 some)
+  unfolding answered questionRefusal notShown firstOf
+  answered-register number e some = rw (← e, ne-eqb number 0 some, ne-eqb number 0 some)
 
   -- the register stands
   module _ (ready : registerRefusal h R ≡ 0) where
     -- the question is refused by its form
     pub answered-form :
-        (number : ℕ) → number ≡ formRefusal h j perm (length buffer) → (number ≡ 0 → ⊥) → outcomeOf number 0 buffer ≡ answered h R j perm buffer
-    unfolding answered notShown firstOf
-    answered-form number e some = rw (in-order h R j perm (length buffer), ready, ← e, ne-eqb number 0 some, ne-eqb number 0 some)
+        (number : ℕ) → number ≡ questionFormRefusal h j perm (length buffer) → (number ≡ 0 → ⊥) → outcomeOf number 0 buffer ≡ answered h R j perm buffer
+    unfolding answered questionRefusal notShown firstOf
+    answered-form number e some = rw (ready, ← e, ne-eqb number 0 some, ne-eqb number 0 some)
 
     -- or the search decides
-    pub answered-searched : formRefusal h j perm (length buffer) ≡ 0 → searched h R (decoded perm) j buffer ≡ answered h R j perm buffer
-    unfolding answered searched firstOf unless
-    answered-searched formed = rw (in-order h R j perm (length buffer), ready, formed) (go (holds h R (decoded perm) j))
+    pub answered-searched : questionFormRefusal h j perm (length buffer) ≡ 0 → searched h R (decoded perm) j buffer ≡ answered h R j perm buffer
+    unfolding answered questionRefusal searched firstOf unless
+    answered-searched formed = rw (ready, formed) (go (holds h R (decoded perm) j))
       where
         go :
             (held : Bool) →

@@ -2,17 +2,10 @@
 use Prim.Native.Nat.{ℕ}
 use mathlib.Core.Bool.{cond}
 use mathlib.Core.List.{List}
-use lib.Dec.{ltb, leb}
 use Rattle.rights.specs.declared.Header.{Header}
-use Rattle.rights.specs.Permission.{Permission, isCode}
+use Rattle.rights.specs.Permission.{Permission}
 use Rattle.rights.specs.Level.{holds}
-use Rattle.rights.specs.Sound.{firstOf, unless}
 use Rattle.rights.specs.Question.{Answer, pickedChain, shown, notShown}
-
--- refusals 4, 6 and 11, which read the header and the question alone
-unfoldable pub formRefusal : Header → ℕ → ℕ → ℕ → ℕ
-formRefusal h j perm room =
-    firstOf (unless (isCode perm) 4) (firstOf (unless (ltb j (h .n)) 6) (unless (leb (h .n) room) 11))
 
 -- what is answered and left where none of the refusals but 12 applies
 unfoldable pub searched : Header → List ℕ → Permission → ℕ → List ℕ → Answer

@@ -10,9 +10,9 @@ ghost use lib.ListN.{length, drop, set as setAt};
 ghost use Rattle.rights.specs.Below.{firstBelow};
 ghost use Rattle.rights.specs.Permission.{decoded, passing};
 ghost use Rattle.rights.specs.Register.{soaOf};
-ghost use Rattle.rights.specs.Question.{single as setOfOne, nearer as nearerSoa, lastOf, smallest, answered, linkInto, fewestInto};
+ghost use Rattle.rights.specs.Question.{single as setOfOne, nearer as nearerSoa, lastOf, smallest, questionFormRefusal, answered, linkInto, fewestInto};
 ghost use Rattle.levels.specs.Padded.{padded};
-ghost use Rattle.questions.specs.Step.{formRefusal, searched, outcomeOf};
+ghost use Rattle.questions.specs.Step.{searched, outcomeOf};
 
 // What a question answers: 0 or the refusal, and of how many offices the chain is, 0 where it is refused.
 #[repr(C)]
@@ -163,7 +163,7 @@ fn search(cells: &[u8], header: Header, office: Office, perm: u8, chain: &mut [u
 
 // The first of refusals 4, 6 and 11 that applies; 0 where none does.
 fn form_refusal(header: Header, office: Office, perm: u8, room: usize) -> u8
-    ensures { λ r. ⌜ r ≡ formRefusal header (office .0) perm room ⌝ }
+    ensures { λ r. ⌜ r ≡ questionFormRefusal header (office .0) perm room ⌝ }
 {
     let n = header.n;
     if !cells::is_code(perm) {

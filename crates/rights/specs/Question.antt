@@ -59,13 +59,17 @@ smallest h R p (suc d) set =
 unfoldable pub pickedChain : Header → List ℕ → Permission → ℕ → List ℕ
 pickedChain h R p j = smallest h R p (fewestLinks h R p j) (single h j)
 
--- 'A holding question checks 1, 2, 3, 4, 6, 11, 12; any perm but 1, 2, 4, 8 is 4'; room is the length of the chain buffer
+-- refusals 4, 6 and 11, which read the header and the question alone: 'any perm but 1, 2, 4, 8 is 4'; room is the length of the
+-- chain buffer
+unfoldable pub questionFormRefusal : Header → ℕ → ℕ → ℕ → ℕ
+questionFormRefusal h j perm room =
+    firstOf (unless (isCode perm) 4) (firstOf (unless (ltb j (h .n)) 6) (unless (leb (h .n) room) 11))
+
+-- 'A holding question checks 1, 2, 3, 4, 6, 11, 12'; 0 where none applies
 unfoldable pub questionRefusal : Header → List ℕ → ℕ → ℕ → ℕ → ℕ
 questionRefusal h R j perm room =
     firstOf (registerRefusal h R)
-    (firstOf (unless (isCode perm) 4)
-    (firstOf (unless (ltb j (h .n)) 6)
-    (firstOf (unless (leb (h .n) room) 11) (unless (holds h R (decoded perm) j) 12))))
+    (firstOf (questionFormRefusal h j perm room) (unless (holds h R (decoded perm) j) 12))
 
 -- what a question answers and leaves
 pub record Answer : Type 0 where

@@ -13,7 +13,7 @@ use Rattle.rights.specs.Permission.{isCode, decoded}
 use Rattle.rights.specs.Chain.{Holds}
 use Rattle.rights.specs.Level.{holds}
 use Rattle.rights.specs.Sound.{firstOf, unless, registerRefusal}
-use Rattle.rights.specs.Question.{pickedChain, questionRefusal, Answer, shown, notShown, answered}
+use Rattle.rights.specs.Question.{pickedChain, questionFormRefusal, questionRefusal, Answer, shown, notShown, answered}
 use Rattle.theory.proofs.Tests.{clash}
 use Rattle.theory.proofs.Ready.{Ready, headed-inside, ready-register}
 use Rattle.theory.proofs.Chain.{holds-chain}
@@ -24,7 +24,7 @@ module _
   where
     -- 'a question is well-formed if none of these but 12 applies'
     only-12 : questionRefusal h R j perm (length buffer) ≡ unless (holds h R (decoded perm) j) 12
-    unfolding questionRefusal firstOf unless
+    unfolding questionRefusal questionFormRefusal firstOf unless
     only-12 = rw (ready-register h R ready, code, lt-ltb j (h .n) below, le-leb (h .n) (length buffer) room)
 
     test : (holds h R (decoded perm) j ≡ true) ↔ Holds h R (decoded perm) j

@@ -1,7 +1,7 @@
 -- Refusals in order: which one applies first, and what is known where none does. Assumes nothing.
 use Prim.Native.Nat.{ℕ, zero, suc, _<_}
 use native.Mathlib.Omega.{arith}
-use mathlib.Core.Path.{_≡_, refl, ap, sym, _∙_}
+use mathlib.Core.Path.{_≡_, refl}
 use mathlib.Core.Bool.{Bool, true, false, _&&_, not, cond}
 use mathlib.Core.List.{List}
 use lib.Dec.{eqb, ltb, eqb·suc-zero}
@@ -21,14 +21,6 @@ first-applies a b ne = rw (ne-eqb a 0 ne)
 pub first-passed : (a b : ℕ) → a ≡ 0 → firstOf a b ≡ b
 unfolding firstOf
 first-passed a b e = rw (eq-eqb a 0 e)
-
--- refusals in order, taken two by two
-pub first-assoc : (a b c : ℕ) → firstOf (firstOf a b) c ≡ firstOf a (firstOf b c)
-unfolding firstOf
-first-assoc zero b c = refl
-first-assoc (suc a) b c =
-    let first : (x : ℕ) → firstOf (suc a) x ≡ suc a = λ x. first-applies (suc a) x (λ e. omega arith) in
-    ap (λ (x : ℕ). firstOf x c) (first b) ∙ first c ∙ sym (first (firstOf b c))
 
 -- no refusal of a list applies where none of its parts does
 pub none-of : (a b : ℕ) → firstOf a b ≡ 0 → (a ≡ 0) × (b ≡ 0)

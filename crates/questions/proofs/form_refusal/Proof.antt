@@ -3,7 +3,7 @@ use mathlib.Core.Path.{sym, _∙_}
 use borrow.Author.Needs.{needs}
 use borrow.Author.Tests.{lt-ltb, le-ltb, le-leb, lt-leb, not-true, not-false}
 use Rattle.rights.specs.Sound.{firstOf, unless}
-use Rattle.questions.specs.Step.{formRefusal}
+use Rattle.rights.specs.Question.{questionFormRefusal}
 use Rattle.questions.proofs.form_refusal.Statement.{statement}
 use Rattle.questions.proofs.form_refusal.Tie as tie
 
@@ -11,11 +11,11 @@ is-code-requires : tie.Need-is-code-requires
 is-code-requires c κs = search needs
 
 returns : tie.Need-returns
-unfolding formRefusal firstOf unless
+unfolding questionFormRefusal firstOf unless
 returns c = rw (sym (c .before .is-code .ensures) ∙ not-true _ (c .if1 .taken))
 
 returns-2 : tie.Need-returns-2
-unfolding formRefusal firstOf unless
+unfolding questionFormRefusal firstOf unless
 returns-2 c =
     let code = c .before .before in
     rw (sym (code .before .is-code .ensures) ∙ not-false _ (code .if1 .left), le-ltb _ _ (c .if2 .taken))
@@ -24,13 +24,13 @@ cast-if3 : tie.Need-cast-if3
 cast-if3 c = search needs
 
 returns-3 : tie.Need-returns-3
-unfolding formRefusal firstOf unless
+unfolding questionFormRefusal firstOf unless
 returns-3 c =
     let code = c .before .before .before in
     rw (sym (code .before .is-code .ensures) ∙ not-false _ (code .if1 .left), lt-ltb _ _ (c .before .if2 .left), lt-leb _ _ (c .if3 .taken))
 
 returns-4 : tie.Need-returns-4
-unfolding formRefusal firstOf unless
+unfolding questionFormRefusal firstOf unless
 returns-4 c =
     let code = c .before .before .before in
     rw (sym (code .before .is-code .ensures) ∙ not-false _ (code .if1 .left), lt-ltb _ _ (c .before .if2 .left), le-leb _ _ (c .if3 .left))

@@ -14,7 +14,7 @@ use Rattle.wording.specs.Word.{bytes, key, form, acts, perms, wordFor, endText}
 use Rattle.wording.specs.Line.{afterWord, isDigit, extended, goesOn, digits, number, chosen, valueOf, behindKey, lineOf, numeralBy, numeral, wordOf, lineText}
 use Rattle.wording.specs.Lines.{offset, andBefore, linesOf, linesText, headerLines, headerOf, headerValues, headerText, commandLines, commandOf}
 use Rattle.wording.specs.Records.{first, recordText, recordsText, byMay, toMay, permMay, withPerm, withTo, withBy, recordFrom, recordsFrom, joined, recordOf, cellRecords, rowRecordsUpTo, rowRecords, rowText, registerText}
-use Rattle.wording.specs.RegisterReader.{withHeader, behindHeader, contentOf, anyRecord, outside, forbidden, nothing, added, filled, contentRefusal, registerDone, judged, registerRead}
+use Rattle.wording.specs.RegisterReader.{withHeader, behindHeader, contentOf, anyRecord, outside, forbidden, nothing, added, filled, readRefusal, contentRefusal, registerDone, judged, registerRead}
 use Rattle.wording.specs.CommandReader.{commandJudged, commandRead}
 use Rattle.printing.specs.NumberLine.{numberLine}
 use Rattle.printing.specs.Answers.{answerText, refusedText}
@@ -41,7 +41,7 @@ unfolding
     afterWord isDigit extended goesOn digits number chosen valueOf behindKey lineOf numeralBy numeral wordOf lineText
     offset andBefore linesOf linesText headerLines headerOf headerValues headerText commandLines commandOf
     first recordText recordsText byMay toMay permMay withPerm withTo withBy recordFrom recordsFrom joined recordOf cellRecords rowRecordsUpTo rowRecords rowText registerText
-    withHeader behindHeader contentOf anyRecord outside forbidden nothing added filled contentRefusal registerDone judged registerRead
+    withHeader behindHeader contentOf anyRecord outside forbidden nothing added filled readRefusal contentRefusal registerDone judged registerRead
     commandJudged commandRead
     numberLine
     answerText refusedText

@@ -1,40 +1,37 @@
 -- The checks 1, 2, 6, 7 and 3 in order. Assumes nothing.
 use Prim.Native.Nat.{ℕ, _*_, _≤_, _<_}
 use mathlib.Core.Path.{_≡_, refl}
-use mathlib.Core.Bool.{Bool, true, false, not, cond}
+use mathlib.Core.Bool.{Bool, true, false}
 use mathlib.Core.List.{List}
 use lib.ListN.{length, take}
 use lib.Seq.{length-take-le}
-use borrow.Author.Tests.{lt-ltb, le-ltb, eq-eqb}
+use borrow.Author.Tests.{lt-leb, le-leb, eq-eqb}
 use Rattle.rights.specs.declared.Header.{Header}
-use Rattle.rights.specs.Sound.{headed, whole, sound, firstOf, unless, registerRefusal}
-use Rattle.readers.specs.Told.{refusalOf}
+use Rattle.rights.specs.Sound.{headed, whole, firstOf, unless, registerRefusal}
+use Rattle.wording.specs.RegisterReader.{readRefusal}
+use Rattle.readers.specs.Told.{bufferRefusal}
 
 module _ (h : Header) (cells : List ℕ) (out barred : Bool) where
-  pub refuses-1 : headed h ≡ false → 1 ≡ refusalOf h cells out barred
-  unfolding refusalOf
+  pub refuses-1 : headed h ≡ false → 1 ≡ bufferRefusal h cells out barred
+  unfolding bufferRefusal readRefusal firstOf unless
   refuses-1 e = rw e refl
 
   module _ (head : headed h ≡ true) where
-    pub refuses-2 : length cells < h .n * h .n → 2 ≡ refusalOf h cells out barred
-    unfolding refusalOf
-    refuses-2 short = rw (head, lt-ltb _ _ short) refl
+    pub refuses-2 : length cells < h .n * h .n → 2 ≡ bufferRefusal h cells out barred
+    unfolding bufferRefusal readRefusal firstOf unless
+    refuses-2 short = rw (head, lt-leb _ _ short) refl
 
     module _ (room : h .n * h .n ≤ length cells) where
-      pub refuses-6 : out ≡ true → 6 ≡ refusalOf h cells out barred
-      unfolding refusalOf
-      refuses-6 e = rw (head, le-ltb _ _ room, e) refl
+      pub refuses-6 : out ≡ true → 6 ≡ bufferRefusal h cells out barred
+      unfolding bufferRefusal readRefusal firstOf unless
+      refuses-6 e = rw (head, le-leb _ _ room, e) refl
 
-      pub refuses-7 : out ≡ false → barred ≡ true → 7 ≡ refusalOf h cells out barred
-      unfolding refusalOf
-      refuses-7 e f = rw (head, le-ltb _ _ room, e, f) refl
+      pub refuses-7 : out ≡ false → barred ≡ true → 7 ≡ bufferRefusal h cells out barred
+      unfolding bufferRefusal readRefusal firstOf unless
+      refuses-7 e f = rw (head, le-leb _ _ room, e, f) refl
 
       -- what the test of a register by itself says of the first n·n bytes
-      pub refuses-3 : out ≡ false → barred ≡ false → registerRefusal h (take (h .n * h .n) cells) ≡ refusalOf h cells out barred
-      unfolding refusalOf registerRefusal firstOf unless whole
+      pub refuses-3 : out ≡ false → barred ≡ false → registerRefusal h (take (h .n * h .n) cells) ≡ bufferRefusal h cells out barred
+      unfolding bufferRefusal readRefusal registerRefusal firstOf unless whole
       refuses-3 e f =
-          rw (head, le-ltb _ _ room, e, f, eq-eqb _ _ (length-take-le (h .n * h .n) cells room)) (go (sound h (take (h .n * h .n) cells)))
-        where
-          go : (t : Bool) → _≡_ {A = ℕ} (cond t 0 3) (cond (not t) 3 0)
-          go true = refl
-          go false = refl
+          rw (head, le-leb _ _ room, e, f, eq-eqb _ _ (length-take-le (h .n * h .n) cells room))

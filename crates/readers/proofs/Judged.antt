@@ -1,17 +1,17 @@
 -- The register reader's outcome, from what it read and found. Assumes nothing.
 use Prim.Native.Nat.{ℕ, _*_, _-_, _≤_}
 use mathlib.Core.Path.{_≡_, refl, sym, ap, _∙_}
-use mathlib.Core.Bool.{Bool, true, false, not, cond}
+use mathlib.Core.Bool.{Bool, true, false}
 use mathlib.Core.List.{List, [], _∷_, _++_}
 use native.Mathlib.Omega.{arith}
-use lib.Dec.{ltb}
+use lib.Dec.{leb}
 use lib.ListN.{length, drop, replicate, length-replicate}
-use borrow.Author.Tests.{ltb-true, ltb-false, lt-leb, le-leb, eq-eqb, ne-eqb}
+use borrow.Author.Tests.{leb-true, eq-eqb, ne-eqb}
 use Rattle.rights.specs.declared.Header.{Header}
-use Rattle.rights.specs.Sound.{headed, sound, firstOf, unless}
+use Rattle.rights.specs.Sound.{firstOf, unless}
 use Rattle.wording.specs.Lines.{Reading, got, badAt, offset, linesOf, linesText, headerLines, headerOf}
 use Rattle.wording.specs.Records.{Record, first, recordsFrom}
-use Rattle.wording.specs.RegisterReader.{withHeader, behindHeader, contentOf, anyRecord, outside, forbidden, filled, contentRefusal, registerDone, registerRefused, judged, registerRead}
+use Rattle.wording.specs.RegisterReader.{withHeader, behindHeader, contentOf, anyRecord, outside, forbidden, filled, readRefusal, contentRefusal, registerDone, registerRefused, judged, registerRead}
 use Rattle.wording.proofs.Truth.{never}
 use Rattle.wording.proofs.Lines.{lines-read, rest-by-offset}
 use Rattle.wording.proofs.Order.{Ascending}
@@ -22,7 +22,7 @@ use Rattle.records.specs.Stored.{storedOne, stored, foundOn, foundAt, answerOf,
 use Rattle.records.specs.declared.RecordsRead.the-variants.{End, BadAt as StopAt}
 use Rattle.records.proofs.SoFar.{stored-length}
 use Rattle.records.proofs.Granted.{stored-filled, register-part}
-use Rattle.readers.specs.Told.{headerRead, headerIn, registerAnswer, registerNot, RegisterTold, refusalOf, behindHeaderAt}
+use Rattle.readers.specs.Told.{headerRead, headerIn, registerAnswer, registerNot, RegisterTold, bufferRefusal, behindHeaderAt}
 use Rattle.readers.specs.declared.HeaderRead.the-variants.{Got, BadAt}
 use Rattle.readers.specs.declared.RegisterRead.{RegisterRead}
 
@@ -31,37 +31,22 @@ unfolding stored
 all-stored-length h cells [] = refl
 all-stored-length h cells (r ∷ rs) = all-stored-length h (storedOne h cells r) rs ∙ stored-length h cells r
 
--- refusals in order, as tests one after the other
-in-order :
-    (a b c d e : Bool) →
-    firstOf (unless a 1) (firstOf (unless b 2) (firstOf (unless (not c) 6) (firstOf (unless (not d) 7) (unless e 3)))) ≡
-    cond (not a) 1 (cond (not b) 2 (cond c 6 (cond d 7 (cond (not e) 3 0))))
-unfolding firstOf unless
-in-order false b c d e = refl
-in-order true false c d e = refl
-in-order true true true d e = refl
-in-order true true false true e = refl
-in-order true true false false true = refl
-in-order true true false false false = refl
-
--- what is refused of a text's records is what is refused of the buffer with them
+-- what is refused of a text's records is what is refused of the buffer with them; where 2 applies, the buffer has no such register
 content-refusal :
     {m lo hi : ℕ} (h : Header) (rs : List Record) (size : ℕ) → Ascending m lo hi rs →
     contentRefusal (record { header = h; records = rs }) size ≡
-    refusalOf h (stored h (replicate size 0) rs) (anyRecord (outside h) rs) (anyRecord (forbidden h) rs)
-unfolding contentRefusal refusalOf
-content-refusal h rs size a = go (ltb size (h .n * h .n)) refl
+    bufferRefusal h (stored h (replicate size 0) rs) (anyRecord (outside h) rs) (anyRecord (forbidden h) rs)
+unfolding contentRefusal bufferRefusal readRefusal firstOf unless
+content-refusal h rs size a = go (leb (h .n * h .n) size) refl
   where
     long : length (stored h (replicate size 0) rs) ≡ size
     long = all-stored-length h (replicate size 0) rs ∙ length-replicate size 0
 
-    go : (t : Bool) → ltb size (h .n * h .n) ≡ t →
+    go : (t : Bool) → leb (h .n * h .n) size ≡ t →
         contentRefusal (record { header = h; records = rs }) size ≡
-        refusalOf h (stored h (replicate size 0) rs) (anyRecord (outside h) rs) (anyRecord (forbidden h) rs)
-    go true e = rw (long, e, lt-leb (h .n * h .n) size (ltb-true size (h .n * h .n) e)) (in-order (headed h) false (anyRecord (outside h) rs) (anyRecord (forbidden h) rs) (sound h (filled h rs)))
-    go false e =
-        rw (long, e, register-part h size (ltb-false size (h .n * h .n) e) a, le-leb (h .n * h .n) size (ltb-false size (h .n * h .n) e))
-        (in-order (headed h) true (anyRecord (outside h) rs) (anyRecord (forbidden h) rs) (sound h (filled h rs)))
+        bufferRefusal h (stored h (replicate size 0) rs) (anyRecord (outside h) rs) (anyRecord (forbidden h) rs)
+    go true e = rw (long, register-part h size (leb-true (h .n * h .n) size e) a)
+    go false e = rw (long, e)
 
 -- a register that is read, with the rest from the byte `next` on
 abbrev pub done : Header → ℕ → RegisterRead
@@ -98,7 +83,7 @@ module _ (text buffer : List ℕ) (h : Header) (at : ℕ) where
     barred-is : barred ≡ anyRecord (forbidden h) records
     next-is : next ≡ offset text rest
     cells-are : cells ≡ stored h (replicate (length buffer) 0) records
-    refusal-is : contentRefusal (record { header = h; records = records }) (length buffer) ≡ refusalOf h cells out barred
+    refusal-is : contentRefusal (record { header = h; records = records }) (length buffer) ≡ bufferRefusal h cells out barred
     done-is : h .n * h .n ≤ length buffer → cells ≡ filled h records ++ replicate (length buffer - length (filled h records)) 0
 
   all-read : {out barred : Bool} {next : ℕ} {cells : List ℕ} → RecordsTold (recordsAt text at h (length buffer)) (length buffer) (End out barred next) cells → AllRead out barred next cells
@@ -130,7 +115,7 @@ module _ (text buffer : List ℕ) (h : Header) (at : ℕ) where
   -- nothing is refused
   pub judged-done :
       {out barred : Bool} {next : ℕ} {cells : List ℕ} → RecordsTold (recordsAt text at h (length buffer)) (length buffer) (End out barred next) cells →
-      refusalOf h cells out barred ≡ 0 → RegisterTold (behindHeaderAt text buffer h at) (done h next) cells
+      bufferRefusal h cells out barred ≡ 0 → RegisterTold (behindHeaderAt text buffer h at) (done h next) cells
   unfolding read behindHeaderAt withHeader judged registerDone registerAnswer
   judged-done told zero =
       let a = all-read told in
@@ -142,7 +127,7 @@ module _ (text buffer : List ℕ) (h : Header) (at : ℕ) where
   pub judged-not :
       {out barred : Bool} {next number : ℕ} {cells after : List ℕ} {r : RegisterRead} →
       RecordsTold (recordsAt text at h (length buffer)) (length buffer) (End out barred next) cells →
-      number ≡ refusalOf h cells out barred → (number ≡ 0 → ⊥) → after ≡ replicate (length cells) 0 → length cells ≡ length buffer →
+      number ≡ bufferRefusal h cells out barred → (number ≡ 0 → ⊥) → after ≡ replicate (length cells) 0 → length cells ≡ length buffer →
       r ≡ registerNot number 0 (length text) → RegisterTold (behindHeaderAt text buffer h at) r after
   unfolding read behindHeaderAt withHeader judged registerRefused registerAnswer registerNot
   judged-not {number = number} told e some gone long is =

@@ -1,15 +1,14 @@
 -- What the readers answer and leave: each answer by the one outcome that the definitions of the text give.
 use Prim.Native.Nat.{ℕ, _+_, _*_, min}
 use mathlib.Core.Path.{_≡_}
-use mathlib.Core.Bool.{Bool, not, cond}
+use mathlib.Core.Bool.{Bool}
 use mathlib.Core.List.{List}
-use lib.Dec.{ltb}
 use lib.ListN.{length, take, drop}
 use Rattle.rights.specs.declared.Header.{Header}
-use Rattle.rights.specs.Sound.{headed, sound}
+use Rattle.rights.specs.Sound.{sound}
 use Rattle.wording.specs.Lines.{Reading, got, badAt, offset, linesOf, headerLines, headerOf}
 use Rattle.wording.specs.Records.{first, recordsFrom}
-use Rattle.wording.specs.RegisterReader.{RegisterRead as Outcome, noHeader, withHeader, judged}
+use Rattle.wording.specs.RegisterReader.{RegisterRead as Outcome, noHeader, withHeader, readRefusal, judged}
 use Rattle.wording.specs.CommandReader.{CommandRead as CommandOutcome, noCommand, commandRead}
 use Rattle.readers.specs.declared.HeaderRead.{HeaderRead}
 use Rattle.readers.specs.declared.HeaderRead.the-variants.{Got, BadAt}
@@ -48,14 +47,9 @@ pub record RegisterTold (o : Outcome) (r : RegisterRead) (cells : List ℕ) : Ty
   pub answer : r ≡ registerAnswer o
   pub buffer : cells ≡ o .buffer
 
--- 'checks 13, 1, 2, 6, 7, 3', what follows 13, of the buffer with the records and what was found of them; 0 where none applies
-unfoldable pub refusalOf : Header → List ℕ → Bool → Bool → ℕ
-refusalOf h cells out barred =
-    cond (not (headed h)) 1
-    (cond (ltb (length cells) (h .n * h .n)) 2
-    (cond out 6
-    (cond barred 7
-    (cond (not (sound h (take (h .n * h .n) cells))) 3 0))))
+-- what the reader checks behind 13, of the buffer with the records and what was found of them
+unfoldable pub bufferRefusal : Header → List ℕ → Bool → Bool → ℕ
+bufferRefusal h cells out barred = readRefusal h (length cells) out barred (sound h (take (h .n * h .n) cells))
 
 -- the outcome behind a header, with the records from the byte `at` on
 unfoldable pub behindHeaderAt : List ℕ → List ℕ → Header → ℕ → Outcome

@@ -11,7 +11,7 @@ ghost use Prim.Native.Nat.{_≤_};
 ghost use lib.ListN.{length};
 ghost use Rattle.wording.specs.RegisterReader.{registerRead};
 ghost use Rattle.wording.specs.CommandReader.{commandRead};
-ghost use Rattle.readers.specs.Told.{headerIn, commandTold, commandRefused, registerNot, refusalOf, RegisterTold, behindHeaderAt, RestTold, RegisterRest, CommandRest};
+ghost use Rattle.readers.specs.Told.{headerIn, commandTold, commandRefused, registerNot, bufferRefusal, RegisterTold, behindHeaderAt, RestTold, RegisterRest, CommandRest};
 
 // What the command reader gives: 0 or 13, where the bad line starts, the command, and where the rest starts.
 #[repr(C)]
@@ -129,7 +129,7 @@ fn no_register(number: u8, at: usize, end: usize) -> RegisterRead
 
 // Refusals 1, 2, 6, 7 and 3, in this order, of a buffer with the records added and what was found of them; 0 is none.
 fn refusal(cells: &[u8], header: Header, outside: bool, forbidden: bool) -> u8
-    ensures { λ r. ⌜ r ≡ refusalOf header (now (cells .entry)) outside forbidden ⌝ }
+    ensures { λ r. ⌜ r ≡ bufferRefusal header (now (cells .entry)) outside forbidden ⌝ }
 {
     if !cells::headed(header) {
         return 1;

@@ -13,7 +13,7 @@ use Rattle.rights.specs.Cell.{has}
 use Rattle.rights.specs.Register.{cell}
 use Rattle.rights.specs.Sound.{headed, whole, sound, barred, firstOf, unless}
 use Rattle.wording.specs.Records.{Record}
-use Rattle.wording.specs.RegisterReader.{Content, anyRecord, outside, forbidden, filled, contentRefusal}
+use Rattle.wording.specs.RegisterReader.{Content, anyRecord, outside, forbidden, filled, readRefusal, contentRefusal}
 use Rattle.theory.proofs.Tests.{left-of, right-of, not-left, not-right, fails}
 use Rattle.wording.proofs.Truth.{never}
 use Rattle.theory.proofs.Cell.{no-record}
@@ -34,7 +34,7 @@ pub record Accepted (t : Content) (size : ℕ) : Type 0 where
   pub sound-ok : sound (t .header) (filled (t .header) (t .records)) ≡ true
 
 pub accepted : (t : Content) (size : ℕ) → contentRefusal t size ≡ 0 → Accepted t size
-unfolding contentRefusal
+unfolding contentRefusal readRefusal
 accepted t size e =
     let one = passed (headed (t .header)) 0 _ e in
     let two = passed (leb (t .header .n * t .header .n) size) 1 _ (one .1) in
@@ -49,7 +49,7 @@ accepted t size e =
     }
 
 pub not-refused : (t : Content) (size : ℕ) → Accepted t size → contentRefusal t size ≡ 0
-unfolding contentRefusal firstOf unless
+unfolding contentRefusal readRefusal firstOf unless
 not-refused t size a =
     rw (a .headed-ok, le-leb (t .header .n * t .header .n) size (a .room-ok), a .inside-ok, a .allowed-ok, a .sound-ok)
 

@@ -17,7 +17,7 @@ use Rattle.wording.specs.Word.{bytes, key, form, acts, perms, wordFor, e
 use Rattle.wording.specs.Line.{afterWord, isDigit, extended, goesOn, digits, number, chosen, valueOf, behindKey, lineOf, numeralBy, numeral, wordOf, lineText}
 use Rattle.wording.specs.Lines.{offset, andBefore, linesOf, linesText, headerLines, headerOf, headerValues, headerText, commandLines, commandOf, commandValues, commandText}
 use Rattle.wording.specs.Records.{first, recordText, recordsText, byMay, toMay, permMay, withPerm, withTo, withBy, recordFrom, recordsFrom, joined, recordOf, cellRecords, rowRecordsUpTo, rowRecords, rowText, registerText}
-use Rattle.wording.specs.RegisterReader.{withHeader, behindHeader, contentOf, anyRecord, outside, forbidden, nothing, added, filled, contentRefusal, RegisterRead, noHeader, registerDone, registerRefused, judged, registerRead}
+use Rattle.wording.specs.RegisterReader.{withHeader, behindHeader, contentOf, anyRecord, outside, forbidden, nothing, added, filled, readRefusal, contentRefusal, RegisterRead, noHeader, registerDone, registerRefused, judged, registerRead}
 use Rattle.wording.specs.CommandReader.{commandJudged, commandRead, noCommand}
 
 -- 01's input, which is map C
@@ -86,5 +86,5 @@ pub examples :
     (commandText (WGD 0 1) ≡ cut) ×
     (commandRead mapText ≡ record { answer = 13; at = 0; command = noCommand; next = length mapText; rest = [] }) ×
     (map readSo refusedTexts ≡ map refusedSo refusedTexts)
-unfolding mapC mapOf headerOn bytesOf drawn WGD command anyBelow allBelow table code decoded anyPermission stronger serves has cellOf carries union lowered restrict cell register isIn linked reached levelsAmong everyOffice levels levelIn headed sound soundBy soundCell barred firstOf unless isCell grantedCell granted key form acts perms wordFor endText afterWord isDigit extended goesOn digits number chosen valueOf behindKey lineOf numeralBy numeral wordOf lineText offset andBefore linesOf linesText headerLines headerOf headerValues headerText commandLines commandOf commandValues commandText first recordText recordsText byMay toMay permMay withPerm withTo withBy recordFrom recordsFrom joined recordOf cellRecords rowRecordsUpTo rowRecords rowText registerText withHeader behindHeader contentOf anyRecord outside forbidden nothing added filled contentRefusal noHeader registerDone registerRefused judged registerRead commandJudged commandRead noCommand
+unfolding mapC mapOf headerOn bytesOf drawn WGD command anyBelow allBelow table code decoded anyPermission stronger serves has cellOf carries union lowered restrict cell register isIn linked reached levelsAmong everyOffice levels levelIn headed sound soundBy soundCell barred firstOf unless isCell grantedCell granted key form acts perms wordFor endText afterWord isDigit extended goesOn digits number chosen valueOf behindKey lineOf numeralBy numeral wordOf lineText offset andBefore linesOf linesText headerLines headerOf headerValues headerText commandLines commandOf commandValues commandText first recordText recordsText byMay toMay permMay withPerm withTo withBy recordFrom recordsFrom joined recordOf cellRecords rowRecordsUpTo rowRecords rowText registerText withHeader behindHeader contentOf anyRecord outside forbidden nothing added filled readRefusal contentRefusal noHeader registerDone registerRefused judged registerRead commandJudged commandRead noCommand
 examples = (refl, refl, refl, refl, refl, refl)

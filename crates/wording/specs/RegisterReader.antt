@@ -55,14 +55,18 @@ unfoldable pub filled : Header → List Record → List ℕ
 filled h rs = added h (register h nothing) rs
 
 -- 'checks 13, 1, 2, 6, 7, 3, each over the whole text before the next', what follows 13; 0 where none applies. 2 is 'text reader:
--- shorter' than n·n; size is the length of the register buffer.
+-- shorter' than n·n; size is the length of the register buffer, and the tests are whether a record is outside, whether one is
+-- forbidden, and whether the register of them is sound.
+unfoldable pub readRefusal : Header → ℕ → Bool → Bool → Bool → ℕ
+readRefusal h size out barred tested =
+    firstOf (unless (headed h) 1)
+    (firstOf (unless (leb (h .n * h .n) size) 2)
+    (firstOf (unless (not out) 6) (firstOf (unless (not barred) 7) (unless tested 3))))
+
 unfoldable pub contentRefusal : Content → ℕ → ℕ
 contentRefusal t size =
-    firstOf (unless (headed (t .header)) 1)
-    (firstOf (unless (leb (t .header .n * t .header .n) size) 2)
-    (firstOf (unless (not (anyRecord (outside (t .header)) (t .records))) 6)
-    (firstOf (unless (not (anyRecord (forbidden (t .header)) (t .records))) 7)
-    (unless (sound (t .header) (filled (t .header) (t .records))) 3))))
+    readRefusal (t .header) size (anyRecord (outside (t .header)) (t .records)) (anyRecord (forbidden (t .header)) (t .records))
+    (sound (t .header) (filled (t .header) (t .records)))
 
 -- what the register reader answers and leaves: the rest is the caller's text from the byte `next` on
 pub record RegisterRead : Type 0 where

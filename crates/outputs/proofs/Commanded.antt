@@ -18,7 +18,7 @@ use Rattle.wording.specs.Records.{registerText}
 use Rattle.wording.specs.CommandReader.{CommandRead, commandRead}
 use Rattle.wording.proofs.CommandText.{command-written-read}
 use Rattle.wording.proofs.RegisterText.{register-written-read}
-use Rattle.outputs.specs.Output.{answered, commandsOutput, behindRegister, output}
+use Rattle.outputs.specs.Output.{answerLines, commandsOutput, behindRegister, output}
 use Rattle.outputs.proofs.Commands.{command-long, output-ended, output-answered}
 use Rattle.outputs.proofs.Whole.{output-read}
 
@@ -30,7 +30,7 @@ commandsText (c ∷ commands) = commandText c ++ commandsText commands
 -- their answers in turn, each on the register that the command before it left
 unfoldable pub answersText : Header → List ℕ → List Command → List ℕ
 answersText h R [] = []
-answersText h R (c ∷ commands) = answered (outcome h R c) ++ answersText h (outcome h R c .cells) commands
+answersText h R (c ∷ commands) = answerLines (outcome h R c) ++ answersText h (outcome h R c .cells) commands
 
 -- each value can be written
 pub data Fitting : List Command → Type 0 where
@@ -48,7 +48,7 @@ commands-output h R at (c ∷ commands) (more d fits others) =
     let long : 1 ≤ length text = omega (arith, command-long c, length-append (commandText c) (commandsText commands)) in
     let good : commandRead text .answer ≡ 0 = ap (λ (r : CommandRead). r .answer) read in
     output-answered h R at text long good
-    ∙ rw read (rw (commands-output h (outcome h R c .cells) (at + length (commandText c)) commands others) (sym (append-assoc (answered (outcome h R c)) _ _)))
+    ∙ rw read (rw (commands-output h (outcome h R c .cells) (at + length (commandText c)) commands others) (sym (append-assoc (answerLines (outcome h R c)) _ _)))
 
 -- 'standard input is a register text, then command texts .. For each command .. its own tally .. At the end the register text'
 pub program-output :

@@ -17,7 +17,7 @@ use Rattle.wording.specs.Records.{registerText}
 use Rattle.wording.specs.CommandReader.{commandRead}
 use Rattle.wording.proofs.CommandText.{command-read-written}
 use Rattle.printing.specs.Answers.{refusedText}
-use Rattle.outputs.specs.Output.{answered, commandsBy, commandsOutput}
+use Rattle.outputs.specs.Output.{answerLines, commandsBy, commandsOutput}
 
 line-long : (k : Kind) (v : ℕ) → length (key k) + 1 ≤ length (lineText k v)
 unfolding lineText
@@ -85,12 +85,12 @@ module _ (h : Header) where
     pub output-answered :
         1 ≤ length text → commandRead text .answer ≡ 0 →
         commandsOutput h R at text ≡
-        answered (outcome h R (commandRead text .command)) ++
+        answerLines (outcome h R (commandRead text .command)) ++
         commandsOutput h (outcome h R (commandRead text .command) .cells) (at + commandRead text .next) (commandRead text .rest)
     unfolding commandsBy commandsOutput
     output-answered some good =
         let less = command-shorter text good in
         first some
         ∙ rw (ne-eqb (length text) 0 (λ e. omega (arith, e)), good)
-        (ap (λ (later : List ℕ). answered (outcome h R (commandRead text .command)) ++ later)
+        (ap (λ (later : List ℕ). answerLines (outcome h R (commandRead text .command)) ++ later)
         (enough (length text) (length (commandRead text .rest)) _ _ (commandRead text .rest) (omega arith) (omega arith)))

@@ -18,7 +18,7 @@ use Rattle.wording.specs.RegisterReader.{withHeader, behindHeader, contentOf, a
 use Rattle.wording.specs.CommandReader.{commandJudged, commandRead}
 use Rattle.printing.specs.NumberLine.{numberLine}
 use Rattle.printing.specs.Answers.{answerText, refusedText}
-use Rattle.outputs.specs.Output.{answered, commandsBy, commandsOutput, behindRegister, output}
+use Rattle.outputs.specs.Output.{answerLines, commandsBy, commandsOutput, behindRegister, output}
 
 -- 01, 'Program `regrun`': its input and the 'Whole output'
 pub example :
@@ -45,5 +45,5 @@ unfolding
     commandJudged commandRead
     numberLine
     answerText refusedText
-    answered commandsBy commandsOutput behindRegister output
+    answerLines commandsBy commandsOutput behindRegister output
 example = refl

@@ -13,7 +13,7 @@ use Rattle.readers.specs.Told.{commandTold, commandAnswer}
 use Rattle.readers.specs.declared.CommandRead.{CommandRead}
 use Rattle.commands.specs.declared.Outcome.{Outcome}
 use Rattle.commands.specs.Post.{Answers}
-use Rattle.outputs.specs.Output.{answered, commandsOutput}
+use Rattle.outputs.specs.Output.{answerLines, commandsOutput}
 use Rattle.outputs.proofs.Commands.{command-shorter, output-refused, output-answered}
 
 module _ (text : List ℕ) (r : CommandRead) (told : r ≡ commandTold text) where
@@ -38,7 +38,7 @@ module _ (text : List ℕ) (r : CommandRead) (told : r ≡ commandTold text) whe
     pub turn-answered :
         (h : Header) (R : List ℕ) (at : ℕ) (done : Outcome) (S : List ℕ) → 1 ≤ length text → r .answer ≡ 0 → Answers (outcome h R (r .command)) done S →
         answerText (done .answer) (done .removed) (done .added) ++ commandsOutput h S (at + r .next) rest ≡ commandsOutput h R at text
-    unfolding commandTold commandAnswer answered
+    unfolding commandTold commandAnswer answerLines
     turn-answered h R at done S some good o =
         rw (o .answer, o .removed, o .added, o .cells, rest-read, told) (sym (output-answered h R at text some (rw told at good)))
 

@@ -14,8 +14,8 @@ use Rattle.wording.specs.Writer.{Written, writtenBehind}
 use Rattle.printing.specs.Answers.{answerText, refusedText}
 
 -- 'For each command: `answer=` (0 or its refusal), `removed=` and `added=` (its own tally).'
-unfoldable pub answered : Outcome → List ℕ
-answered o = answerText (o .answer) (o .removed) (o .added)
+unfoldable pub answerLines : Outcome → List ℕ
+answerLines o = answerText (o .answer) (o .removed) (o .added)
 
 -- 'command texts until the input ends, run one at a time .. At the end the register text. .. a refused text writes `refused=` and
 -- `at=` (offset in the input ..) and stops.' The commands stand from the byte `at` of the input on, so many at most; that the
@@ -25,7 +25,7 @@ commandsBy zero h R at text = registerText h R
 commandsBy (suc k) h R at text =
     cond (eqb (length text) 0) (registerText h R)
     (cond (eqb (commandRead text .answer) 0)
-    (answered (outcome h R (commandRead text .command)) ++
+    (answerLines (outcome h R (commandRead text .command)) ++
     commandsBy k h (outcome h R (commandRead text .command) .cells) (at + commandRead text .next) (commandRead text .rest))
     (refusedText (commandRead text .answer) (at + commandRead text .at)))
 

@@ -18,7 +18,7 @@ use Rattle.wording.proofs.Order.{Ascending}
 use Rattle.wording.proofs.Records.{before-first, records-read}
 use Rattle.wording.proofs.Filled.{length-filled}
 use Rattle.wording.proofs.Accepted.{accepted}
-use Rattle.records.specs.Stored.{storedOne, stored, foundOn, foundAt, answerOf, cellsOf, recordsAt, RecordsTold}
+use Rattle.records.specs.Stored.{storedOne, storedAll, foundOn, foundAt, answerOf, cellsOf, recordsAt, RecordsTold}
 use Rattle.records.specs.declared.RecordsRead.the-variants.{End, BadAt as StopAt}
 use Rattle.records.proofs.SoFar.{stored-length}
 use Rattle.records.proofs.Granted.{stored-filled, register-part}
@@ -26,8 +26,8 @@ use Rattle.readers.specs.Told.{headerRead, headerIn, registerAnswer, reg
 use Rattle.readers.specs.declared.HeaderRead.the-variants.{Got, BadAt}
 use Rattle.readers.specs.declared.RegisterRead.{RegisterRead}
 
-all-stored-length : (h : Header) (cells : List ℕ) (rs : List Record) → length (stored h cells rs) ≡ length cells
-unfolding stored
+all-stored-length : (h : Header) (cells : List ℕ) (rs : List Record) → length (storedAll h cells rs) ≡ length cells
+unfolding storedAll
 all-stored-length h cells [] = refl
 all-stored-length h cells (r ∷ rs) = all-stored-length h (storedOne h cells r) rs ∙ stored-length h cells r
 
@@ -35,16 +35,16 @@ all-stored-length h cells (r ∷ rs) = all-stored-length h (storedOne h cells r)
 content-refusal :
     {m lo hi : ℕ} (h : Header) (rs : List Record) (size : ℕ) → Ascending m lo hi rs →
     contentRefusal (record { header = h; records = rs }) size ≡
-    bufferRefusal h (stored h (replicate size 0) rs) (anyRecord (outside h) rs) (anyRecord (forbidden h) rs)
+    bufferRefusal h (storedAll h (replicate size 0) rs) (anyRecord (outside h) rs) (anyRecord (forbidden h) rs)
 unfolding contentRefusal bufferRefusal readRefusal firstOf unless
 content-refusal h rs size a = go (leb (h .n * h .n) size) refl
   where
-    long : length (stored h (replicate size 0) rs) ≡ size
+    long : length (storedAll h (replicate size 0) rs) ≡ size
     long = all-stored-length h (replicate size 0) rs ∙ length-replicate size 0
 
     go : (t : Bool) → leb (h .n * h .n) size ≡ t →
         contentRefusal (record { header = h; records = rs }) size ≡
-        bufferRefusal h (stored h (replicate size 0) rs) (anyRecord (outside h) rs) (anyRecord (forbidden h) rs)
+        bufferRefusal h (storedAll h (replicate size 0) rs) (anyRecord (outside h) rs) (anyRecord (forbidden h) rs)
     go true e = rw (long, register-part h size (leb-true (h .n * h .n) size e) a)
     go false e = rw (long, e)
 
@@ -82,7 +82,7 @@ module _ (text buffer : List ℕ) (h : Header) (at : ℕ) where
     out-is : out ≡ anyRecord (outside h) records
     barred-is : barred ≡ anyRecord (forbidden h) records
     next-is : next ≡ offset text rest
-    cells-are : cells ≡ stored h (replicate (length buffer) 0) records
+    cells-are : cells ≡ storedAll h (replicate (length buffer) 0) records
     refusal-is : contentRefusal (record { header = h; records = records }) (length buffer) ≡ bufferRefusal h cells out barred
     done-is : h .n * h .n ≤ length buffer → cells ≡ filled h records ++ replicate (length buffer - length (filled h records)) 0
 
@@ -96,7 +96,7 @@ module _ (text buffer : List ℕ) (h : Header) (at : ℕ) where
           never (cc)
       go (got rs rest) q =
           let answer : End out barred next ≡ End (anyRecord (outside h) rs) (anyRecord (forbidden h) rs) (offset text rest) = rw q at (told .answer) in
-          let all : cells ≡ stored h (replicate (length buffer) 0) rs = rw q at (told .buffer) in
+          let all : cells ≡ storedAll h (replicate (length buffer) 0) rs = rw q at (told .buffer) in
           let ascends = records-read (length (drop at text)) first (drop at text) rs rest before-first q .ascending in
           let o : out ≡ anyRecord (outside h) rs = cc in
           let b : barred ≡ anyRecord (forbidden h) rs = cc in

@@ -25,7 +25,7 @@ use Rattle.wording.proofs.Truth.{never}
 use Rattle.wording.proofs.Cell.{code-decoded}
 use Rattle.wording.proofs.Order.{Ascending, none, more}
 use Rattle.wording.proofs.Filled.{length-filled}
-use Rattle.records.specs.Stored.{placeOf, roomFor, storedOne, stored}
+use Rattle.records.specs.Stored.{placeOf, roomFor, storedOne, storedAll}
 
 module _ (h : Header) where
   -- the register with the record's cell stored
@@ -93,12 +93,12 @@ module _ (h : Header) where
             (outside-granted (λ hi hj. let z : true ≡ false = sym (both (lt-ltb (r .by) (h .n) hi) (lt-ltb (r .to) (h .n) hj)) ∙ e in never (cc))))
 
   -- records of the text one after the other
-  stored-all : {m lo hi : ℕ} {rs : List Record} (R Z : List ℕ) → length R ≡ h .n * h .n → Ascending m lo hi rs → stored h (R ++ Z) rs ≡ added h R rs ++ Z
-  unfolding stored added
+  stored-all : {m lo hi : ℕ} {rs : List Record} (R Z : List ℕ) → length R ≡ h .n * h .n → Ascending m lo hi rs → storedAll h (R ++ Z) rs ≡ added h R rs ++ Z
+  unfolding storedAll added
   stored-all R Z long (none e) = refl
   stored-all R Z long (more {r = r} {rs = rs} p e a) =
       let perm = code-decoded (r .perm) (p .coded) in
-      ap (λ (l : List ℕ). stored h l rs) (stored-one R long r perm Z)
+      ap (λ (l : List ℕ). storedAll h l rs) (stored-one R long r perm Z)
       ∙ stored-all (granted h R (r .by) (r .to) (decoded (r .perm))) Z (granted-long R long r perm) a
 
   empty-register : register h nothing ≡ replicate (h .n * h .n) 0
@@ -113,20 +113,20 @@ module _ (h : Header) where
   -- in an empty buffer with room: the register of the records, and zero behind it
   pub stored-filled :
       {m lo hi : ℕ} {rs : List Record} (size : ℕ) → h .n * h .n ≤ size → Ascending m lo hi rs →
-      stored h (replicate size 0) rs ≡ filled h rs ++ replicate (size - h .n * h .n) 0
+      storedAll h (replicate size 0) rs ≡ filled h rs ++ replicate (size - h .n * h .n) 0
   unfolding filled
   stored-filled {rs = rs} size room a =
       let parts : h .n * h .n + (size - h .n * h .n) ≡ size = omega arith in
       let whole : replicate {A = ℕ} size 0 ≡ replicate (h .n * h .n) 0 ++ replicate (size - h .n * h .n) 0 =
       sym (replicate-append-replicate (h .n * h .n) (size - h .n * h .n) 0 ∙ ap (λ (n : ℕ). replicate n 0) parts)
       in
-      ap (λ (l : List ℕ). stored h l rs) whole
+      ap (λ (l : List ℕ). storedAll h l rs) whole
       ∙ stored-all (replicate (h .n * h .n) 0) (replicate (size - h .n * h .n) 0) (length-replicate (h .n * h .n) 0) a
       ∙ ap (λ (l : List ℕ). added h l rs ++ replicate (size - h .n * h .n) 0) (sym empty-register)
 
   -- and the register is its first n·n bytes
   pub register-part :
       {m lo hi : ℕ} {rs : List Record} (size : ℕ) → h .n * h .n ≤ size → Ascending m lo hi rs →
-      take (h .n * h .n) (stored h (replicate size 0) rs) ≡ filled h rs
+      take (h .n * h .n) (storedAll h (replicate size 0) rs) ≡ filled h rs
   register-part {rs = rs} size room a =
       ap (take (h .n * h .n)) (stored-filled size room a) ∙ take-at (filled h rs) _ (h .n * h .n) (length-filled h rs)

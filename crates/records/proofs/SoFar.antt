@@ -17,8 +17,8 @@ use Rattle.lines.specs.Read.{endAt}
 use Rattle.lines.specs.declared.WordRead.the-variants.{Next, Other}
 use Rattle.lines.proofs.Byte.{offset-drop}
 use Rattle.lines.proofs.Found.{end-found, end-other}
-use Rattle.records.specs.Read.{textRecord, recordOf, recordRead}
-use Rattle.records.specs.Stored.{placeOf, roomFor, storedOne, stored, stopped, foundOn, foundAt, foundIs}
+use Rattle.records.specs.Read.{textRecord, typedRecord, recordRead}
+use Rattle.records.specs.Stored.{placeOf, roomFor, storedOne, storedAll, stopped, foundOn, foundAt, foundIs}
 use Rattle.records.specs.declared.Record as Read
 use Rattle.records.specs.declared.RecordRead.the-variants.{Got, BadAt}
 use Rattle.records.specs.declared.RecordsRead.the-variants.{End, BadAt as StopAt}
@@ -27,7 +27,7 @@ use Rattle.records.specs.declared.RecordsRead.the-variants.{End, BadAt a
 found-more :
     (text : List ℕ) (h : Header) (out barred : Bool) (cells : List ℕ) (r : Record) (x : Reading (List Record)) →
     foundOn text h out barred cells (andBefore r x) ≡ foundOn text h (out || outside h r) (barred || forbidden h r) (storedOne h cells r) x
-unfolding foundOn andBefore anyRecord stored
+unfolding foundOn andBefore anyRecord storedAll
 found-more text h out barred cells r (got rs rest) =
     rw (or-assoc out (outside h r) (anyRecord (outside h) rs), or-assoc barred (forbidden h r) (anyRecord (forbidden h) rs))
 found-more text h out barred cells r (badAt line) = refl
@@ -56,7 +56,7 @@ module _ {text : List ℕ} {start : ℕ} {h : Header} {cells₀ cells : List ℕ
     (s : ScanSoFar text start h cells₀ cells at last out barred) where
   -- at the end line
   pub scan-end : (next : ℕ) → endAt text at ≡ Next next → foundIs (End out barred next) cells ≡ foundAt text start h cells₀
-  unfolding foundIs foundOn anyRecord stored
+  unfolding foundIs foundOn anyRecord storedAll
   scan-end next e =
       let w = end-found text at next e in
       rw (← (s .left), step-end last (drop at text) (drop next text) (s .before) (w .behind), or-false out, or-false barred, offset-drop text next (w .within)) refl
@@ -78,7 +78,7 @@ module _ {text : List ℕ} {start : ℕ} {h : Header} {cells₀ cells : List ℕ
     pub further : at < next
 
   pub scan-more : (told : Read.Record) (next : ℕ) → endAt text at ≡ Other → recordRead text (recordFrom last (drop at text)) ≡ Got told next → MoreRead (textRecord told) next
-  unfolding recordRead recordOf textRecord
+  unfolding recordRead typedRecord textRecord
   scan-more told next e q = go (recordFrom last (drop at text)) refl q
     where
       go : (x : Reading Record) → recordFrom last (drop at text) ≡ x → recordRead text x ≡ Got told next → MoreRead (textRecord told) next
@@ -87,7 +87,7 @@ module _ {text : List ℕ} {start : ℕ} {h : Header} {cells₀ cells : List ℕ
           let one = record-read last (drop at text) r rest (s .before) w in
           let place = rest-within text at (recordText r) rest (s .within) (one .written) in
           let n : offset text rest ≡ next = cc in
-          let same : recordOf r ≡ told = cc in
+          let same : typedRecord r ≡ told = cc in
           let part : rest ≡ drop next text = rw n at (place .part) in
           let inside : next ≤ length text = rw n at (place .fits) in
           let far : next ≡ at + length (recordText r) = rw n at (place .next) in

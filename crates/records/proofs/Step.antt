@@ -11,7 +11,7 @@ use Rattle.lines.specs.Read.{lineAt}
 use Rattle.lines.specs.declared.LineRead.the-variants.{Value, Bad}
 use Rattle.lines.proofs.Byte.{offset-drop}
 use Rattle.lines.proofs.Found.{line-found, line-bad}
-use Rattle.records.specs.Read.{recordOf, recordRead}
+use Rattle.records.specs.Read.{typedRecord, recordRead}
 use Rattle.records.specs.declared.RecordRead.the-variants.{Got, BadAt}
 
 module _ (text : List ℕ) (at : ℕ) (last : Record) (h : at ≤ length text) where
@@ -28,7 +28,7 @@ module _ (text : List ℕ) (at : ℕ) (last : Record) (h : at ≤ length text) w
 
     pub perm-got :
         (p next : ℕ) → lineAt text at permLine ≡ Value p next → permMay last i j p ≡ true →
-        Got (recordOf (record { by = i; to = j; perm = p })) next ≡ recordRead text (withPerm last i j (drop at text) (lineOf permLine (drop at text)))
+        Got (typedRecord (record { by = i; to = j; perm = p })) next ≡ recordRead text (withPerm last i j (drop at text) (lineOf permLine (drop at text)))
     unfolding recordRead withPerm
     perm-got p next e may =
         let f = line-found text at permLine p next e in

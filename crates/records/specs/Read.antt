@@ -13,12 +13,12 @@ unfoldable pub textRecord : Record → TextRecord
 textRecord r = record { by = r .by .0; to = r .to .0; perm = r .perm }
 
 -- not of 01: the record of the code for a record of the text
-unfoldable pub recordOf : TextRecord → Record
-recordOf r = record { by = record { 0 = r .by }; to = record { 0 = r .to }; perm = r .perm }
+unfoldable pub typedRecord : TextRecord → Record
+typedRecord r = record { by = record { 0 = r .by }; to = record { 0 = r .to }; perm = r .perm }
 
 -- a record and where in the text the next line starts, or where the bad line starts
 unfoldable pub recordRead : List ℕ → Reading TextRecord → RecordRead
-recordRead text (got r rest) = Got (recordOf r) (offset text rest)
+recordRead text (got r rest) = Got (typedRecord r) (offset text rest)
 recordRead text (badAt line) = BadAt (offset text line)
 
 -- what stands at the byte `at` as a record that comes after the last one

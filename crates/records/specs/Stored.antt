@@ -26,9 +26,9 @@ unfoldable pub storedOne : Header → List ℕ → Record → List ℕ
 storedOne h cells r = cond (roomFor h (length cells) r) (set cells (placeOf h r) (union (getD cells (placeOf h r) 0) (r .perm))) cells
 
 -- the buffer with each record added in turn, where it has a cell
-unfoldable pub stored : Header → List ℕ → List Record → List ℕ
-stored h cells [] = cells
-stored h cells (r ∷ rs) = stored h (storedOne h cells r) rs
+unfoldable pub storedAll : Header → List ℕ → List Record → List ℕ
+storedAll h cells [] = cells
+storedAll h cells (r ∷ rs) = storedAll h (storedOne h cells r) rs
 
 -- What a loop over the records has found in the end: whether a record is outside, whether one is forbidden, the buffer with the
 -- records added, and where in the text it goes on behind the end line; or where the first bad line starts.
@@ -39,7 +39,7 @@ pub data Found : Type 0 where
 -- what it finds in the end, from what it has found so far and what is left to read
 unfoldable pub foundOn : List ℕ → Header → Bool → Bool → List ℕ → Reading (List Record) → Found
 foundOn text h out barred cells (got rs rest) =
-    found (out || anyRecord (outside h) rs) (barred || anyRecord (forbidden h) rs) (stored h cells rs) (offset text rest)
+    found (out || anyRecord (outside h) rs) (barred || anyRecord (forbidden h) rs) (storedAll h cells rs) (offset text rest)
 foundOn text h out barred cells (badAt line) = stopped (offset text line)
 
 -- what it finds in the records that start at the byte `at`

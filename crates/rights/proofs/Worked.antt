@@ -12,7 +12,7 @@ use Rattle.rights.specs.Deletion.{grantedCell, granted, wgd, handedCell,
 use Rattle.rights.specs.Tally.{missing}
 use Rattle.rights.specs.Command.{isGrant, wellFormed, mayGrant, grantRefusal, deletionRefusal, formRefusal, refusal, carriedOut, refused, done, outcome}
 use Rattle.rights.specs.Question.{single, nearer, linksAway, fewestLinks, lastOf, smallest, pickedChain, questionFormRefusal, questionRefusal, shown, notShown, answered}
-use Rattle.rights.specs.Maps.{mapOf, headerOf, drawn, bytesOf, mapA, mapB, mapC, mapD, mapE, mapF, mapG, mapH}
+use Rattle.rights.specs.Maps.{mapOf, mapHeader, drawn, bytesOf, mapA, mapB, mapC, mapD, mapE, mapF, mapG, mapH}
 use Rattle.rights.specs.Cases.{command, GRANT, WLD, WGD, SLD, SGD, leftByOne, leftByFour, leftBySeven, cases}
 use Rattle.rights.specs.Run.{answeredWith, followedBy, untouched, inTurn, runOutcome}
 use Rattle.rights.specs.Agreement.{unanswered, answersOf, sameNumbers, buffer, agrees, allAgree}
@@ -30,7 +30,7 @@ unfolding
     missing
     isGrant wellFormed mayGrant grantRefusal deletionRefusal formRefusal refusal carriedOut refused done outcome
     single nearer linksAway fewestLinks lastOf smallest pickedChain questionFormRefusal questionRefusal shown notShown answered
-    mapOf headerOf drawn bytesOf mapA mapB mapC mapD mapE mapF mapG mapH
+    mapOf mapHeader drawn bytesOf mapA mapB mapC mapD mapE mapF mapG mapH
     command GRANT WLD WGD SLD SGD leftByOne leftByFour leftBySeven cases
     answeredWith followedBy untouched inTurn runOutcome
     unanswered answersOf sameNumbers buffer agrees allAgree

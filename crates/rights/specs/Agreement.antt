@@ -9,7 +9,7 @@ use Rattle.rights.specs.declared.Entry.{Entry}
 use Rattle.rights.specs.Permission.{code}
 use Rattle.rights.specs.Run.{runOutcome}
 use Rattle.rights.specs.Question.{answered}
-use Rattle.rights.specs.Maps.{Map, headerOf, bytesOf}
+use Rattle.rights.specs.Maps.{Map, mapHeader, bytesOf}
 use Rattle.rights.specs.Cases.{Case, cut, ask}
 
 -- the commands as a caller hands them in, each with a number in the place of its answer that no command answers
@@ -36,11 +36,11 @@ buffer m = replicate (m .n) 9
 -- 01: 'the definitions give each result', of one case: every answer, the tally and every byte of what was lent
 unfoldable pub agrees : Case → Bool
 agrees (cut m commands answers removed added left) =
-    let o = runOutcome (headerOf m) (bytesOf m) (unanswered commands) in
+    let o = runOutcome (mapHeader m) (bytesOf m) (unanswered commands) in
     let e = o .ending in
     eqb (o .answer) 0 && sameNumbers (answersOf (e .entries)) answers && eqb (e .removed) removed && eqb (e .added) added && sameNumbers (e .cells) (bytesOf left)
 agrees (ask m j p answer chain) =
-    let a = answered (headerOf m) (bytesOf m) j (code p) (buffer m) in
+    let a = answered (mapHeader m) (bytesOf m) j (code p) (buffer m) in
     eqb (a .answer) answer && eqb (a .offices) (length chain) && sameNumbers (a .chain) (chain ++ drop (length chain) (buffer m))
 
 -- 01: 'a list with a single statement that the definitions give each result': the statement, as a test of a list

@@ -19,8 +19,8 @@ unfoldable pub mapOf : ℕ → List Grant → Map
 mapOf n grants = record { n = n; grants = grants }
 
 -- 'SOA is 0', and the layer is that of the program's example
-unfoldable pub headerOf : Map → Header
-headerOf m = record { n = m .n; soa = record { 0 = 0 }; layer = record { 0 = 7 } }
+unfoldable pub mapHeader : Map → Header
+mapHeader m = record { n = m .n; soa = record { 0 = 0 }; layer = record { 0 = 7 } }
 
 -- n·n zeros, and each record's code added to 'byte i·n + j'
 unfoldable pub drawn : ℕ → List Grant → List ℕ

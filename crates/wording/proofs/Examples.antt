@@ -11,7 +11,7 @@ use Rattle.rights.specs.Level.{isIn, linked, reached, levelsAmong, everyOffice,
 use Rattle.rights.specs.Sound.{headed, sound, soundBy, soundCell, barred, firstOf, unless}
 use Rattle.rights.specs.Restriction.{isCell}
 use Rattle.rights.specs.Deletion.{grantedCell, granted}
-use Rattle.rights.specs.Maps.{mapOf, mapC, headerOf as headerOn, drawn, bytesOf}
+use Rattle.rights.specs.Maps.{mapOf, mapC, mapHeader, drawn, bytesOf}
 use Rattle.rights.specs.Cases.{command, WGD}
 use Rattle.wording.specs.Word.{bytes, key, form, acts, perms, wordFor, endText}
 use Rattle.wording.specs.Line.{afterWord, isDigit, extended, goesOn, digits, number, chosen, valueOf, behindKey, lineOf, numeralBy, numeral, wordOf, lineText}
@@ -80,11 +80,11 @@ bytes-of = refl
 -- again; a command with a bad line is refused; the texts above are refused
 pub examples :
     (registerRead (mapText ++ cut) (replicate 10 99) ≡
-    record { answer = 0; at = 0; header = headerOn mapC; buffer = bytesOf mapC ++ (0 ∷ []); next = length mapText; rest = cut }) ×
-    (registerText (headerOn mapC) (bytesOf mapC) ≡ mapText) ×
+    record { answer = 0; at = 0; header = mapHeader mapC; buffer = bytesOf mapC ++ (0 ∷ []); next = length mapText; rest = cut }) ×
+    (registerText (mapHeader mapC) (bytesOf mapC) ≡ mapText) ×
     (commandRead cut ≡ record { answer = 0; at = 0; command = WGD 0 1; next = length cut; rest = [] }) ×
     (commandText (WGD 0 1) ≡ cut) ×
     (commandRead mapText ≡ record { answer = 13; at = 0; command = noCommand; next = length mapText; rest = [] }) ×
     (map readSo refusedTexts ≡ map refusedSo refusedTexts)
-unfolding mapC mapOf headerOn bytesOf drawn WGD command anyBelow allBelow table code decoded anyPermission stronger serves has cellOf carries union lowered restrict cell register isIn linked reached levelsAmong everyOffice levels levelIn headed sound soundBy soundCell barred firstOf unless isCell grantedCell granted key form acts perms wordFor endText afterWord isDigit extended goesOn digits number chosen valueOf behindKey lineOf numeralBy numeral wordOf lineText offset andBefore linesOf linesText headerLines headerOf headerValues headerText commandLines commandOf commandValues commandText first recordText recordsText byMay toMay permMay withPerm withTo withBy recordFrom recordsFrom joined recordOf cellRecords rowRecordsUpTo rowRecords rowText registerText withHeader behindHeader contentOf anyRecord outside forbidden nothing added filled readRefusal contentRefusal noHeader registerDone registerRefused judged registerRead commandJudged commandRead noCommand
+unfolding mapC mapOf mapHeader bytesOf drawn WGD command anyBelow allBelow table code decoded anyPermission stronger serves has cellOf carries union lowered restrict cell register isIn linked reached levelsAmong everyOffice levels levelIn headed sound soundBy soundCell barred firstOf unless isCell grantedCell granted key form acts perms wordFor endText afterWord isDigit extended goesOn digits number chosen valueOf behindKey lineOf numeralBy numeral wordOf lineText offset andBefore linesOf linesText headerLines headerOf headerValues headerText commandLines commandOf commandValues commandText first recordText recordsText byMay toMay permMay withPerm withTo withBy recordFrom recordsFrom joined recordOf cellRecords rowRecordsUpTo rowRecords rowText registerText withHeader behindHeader contentOf anyRecord outside forbidden nothing added filled readRefusal contentRefusal noHeader registerDone registerRefused judged registerRead commandJudged commandRead noCommand
 examples = (refl, refl, refl, refl, refl, refl)

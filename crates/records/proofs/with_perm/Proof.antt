@@ -4,7 +4,7 @@ use mathlib.Core.Path.{sym, _∙_}
 use borrow.Author.Needs.{needs}
 use Rattle.lines.specs.Read.{kindOf}
 use Rattle.lines.proofs.Found.{line-found, perm-small}
-use Rattle.records.specs.Read.{recordOf}
+use Rattle.records.specs.Read.{typedRecord}
 use Rattle.records.proofs.Step.{perm-bad, perm-not, perm-got}
 use Rattle.records.proofs.with_perm.Statement.{statement}
 use Rattle.records.proofs.with_perm.Tie as tie
@@ -30,7 +30,7 @@ unfolding kindOf
 cast-t11 c = let s = perm-small _ (line-found _ _ _ _ _ (sym (c .before .before .before .before .before .line .ensures) ∙ c .before .before .before .perm .given .1) .fit) in omega arith
 
 returns-2 : tie.Need-returns-2
-unfolding kindOf recordOf
+unfolding kindOf typedRecord
 returns-2 c = perm-got _ _ _ (c .before .before .before .before .before .before .before .pre) _ _ _ _ (sym (c .before .before .before .before .before .line .ensures) ∙ c .before .before .before .perm .given .1) (sym (c .before .perm-may .ensures) ∙ c .if1 .taken)
 
 returns-3 : tie.Need-returns-3

@@ -29,6 +29,7 @@ commandsBy (suc k) h R at text =
     commandsBy k h (outcome h R (commandRead text .command) .cells) (at + commandRead text .next) (commandRead text .rest))
     (refusedText (commandRead text .answer) (at + commandRead text .at)))
 
+-- the same with as many commands at most as the text has bytes
 unfoldable pub commandsOutput : Header → List ℕ → ℕ → List ℕ → List ℕ
 commandsOutput h R at text = commandsBy (length text) h R at text
 

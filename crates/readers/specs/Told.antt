@@ -20,6 +20,7 @@ unfoldable pub headerRead : List ℕ → Reading (List ℕ) → HeaderRead
 headerRead text (got vs rest) = Got (headerOf vs) (offset text rest)
 headerRead text (badAt line) = BadAt (offset text line)
 
+-- what stands at the start of the text as a header
 unfoldable pub headerIn : List ℕ → HeaderRead
 headerIn text = headerRead text (linesOf headerLines text)
 
@@ -27,6 +28,7 @@ headerIn text = headerRead text (linesOf headerLines text)
 unfoldable pub commandAnswer : CommandOutcome → CommandRead
 commandAnswer o = record { answer = o .answer; at = o .at; command = o .command; next = o .next }
 
+-- what the command reader answers for the text
 unfoldable pub commandTold : List ℕ → CommandRead
 commandTold text = commandAnswer (commandRead text)
 
@@ -68,6 +70,7 @@ pub record RegisterRest (start : ℕ × ℕ) (o : Outcome) (there : ℕ × ℕ) 
   pub place : there .1 ≡ start .1 + o .next
   pub buffer : cells ≡ o .buffer
 
+-- the rest of an outcome of the command reader, in the caller's own text
 pub record CommandRest (start : ℕ × ℕ) (o : CommandOutcome) (there : ℕ × ℕ) (rest : List ℕ) : Type 0 where
   pub bytes : rest ≡ o .rest
   pub same-text : there .0 ≡ start .0

@@ -15,6 +15,7 @@ use Rattle.rights.specs.Restriction.{restricted, isCell, rowTo, columnsT
 unfoldable pub grantedCell : Header → List ℕ → ℕ → ℕ → Permission → ℕ → ℕ → ℕ
 grantedCell h R i j p x y = cond (isCell i j x y) (union (cell h R x y) (code p)) (cell h R x y)
 
+-- the register after 'Grant: adds the record.'
 unfoldable pub granted : Header → List ℕ → ℕ → ℕ → Permission → List ℕ
 granted h R i j p = register h (grantedCell h R i j p)
 
@@ -27,6 +28,7 @@ unfoldable pub handedCell : Header → List ℕ → List ℕ → ℕ → ℕ →
 handedCell h R N i j x k =
     cond (eqb x i && not (eqb k i)) (union (cell h N i k) (without (cell h R j k) (cell h N j k))) (cell h N x k)
 
+-- the register once each such record 'is added as (i, k), unless k is i'
 unfoldable pub handedOver : Header → List ℕ → List ℕ → ℕ → ℕ → List ℕ
 handedOver h R N i j = register h (handedCell h R N i j)
 

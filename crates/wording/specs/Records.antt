@@ -25,6 +25,7 @@ first = record { by = 0; to = 0; perm = 16 }
 unfoldable pub recordText : Record → List ℕ
 recordText r = lineText byLine (r .by) ++ (lineText toLine (r .to) ++ lineText permLine (r .perm))
 
+-- the lines of the records, one record behind the other: 'Then for each record'
 unfoldable pub recordsText : List Record → List ℕ
 recordsText [] = []
 recordsText (r ∷ rs) = recordText r ++ recordsText rs
@@ -34,6 +35,7 @@ recordsText (r ∷ rs) = recordText r ++ recordsText rs
 unfoldable pub byMay : Record → ℕ → Bool
 byMay last i = leb (last .by) i
 
+-- the same sentence: 'else its `to=` if that is smaller'
 unfoldable pub toMay : Record → ℕ → ℕ → Bool
 toMay last i j = ltb (last .by) i || leb (last .to) j
 
@@ -41,15 +43,17 @@ toMay last i j = ltb (last .by) i || leb (last .to) j
 unfoldable pub permMay : Record → ℕ → ℕ → ℕ → Bool
 permMay last i j p = leb 1 p && (ltb (last .by) i || ltb (last .to) j || ltb p (last .perm))
 
--- what the third, the second and the first line of a record make of it, each line given with the text that begins with it
+-- what the third line of a record makes of it; the line is given with the text that begins with it
 unfoldable pub withPerm : Record → ℕ → ℕ → List ℕ → Line → Reading Record
 withPerm last i j text (value p rest) = cond (permMay last i j p) (got (record { by = i; to = j; perm = p }) rest) (badAt text)
 withPerm last i j text bad = badAt text
 
+-- what the second line of a record makes of it, with the third behind it
 unfoldable pub withTo : Record → ℕ → List ℕ → Line → Reading Record
 withTo last i text (value j rest) = cond (toMay last i j) (withPerm last i j rest (lineOf permLine rest)) (badAt text)
 withTo last i text bad = badAt text
 
+-- what the first line of a record makes of it, with the two behind it
 unfoldable pub withBy : Record → List ℕ → Line → Reading Record
 withBy last text (value i rest) = cond (byMay last i) (withTo last i rest (lineOf toLine rest)) (badAt text)
 withBy last text bad = badAt text
@@ -80,13 +84,15 @@ recordOf i j c p = cond (has c p) (record { by = i; to = j; perm = code p } ∷ 
 unfoldable pub cellRecords : ℕ → ℕ → ℕ → List Record
 cellRecords i j c = recordOf i j c TT ++ (recordOf i j c TF ++ (recordOf i j c FT ++ recordOf i j c FF))
 
--- the records of row i to the subjects below m, and all of them
+-- the records of row i to the subjects below m
 unfoldable pub rowRecordsUpTo : Header → List ℕ → ℕ → ℕ → List Record
 rowRecordsUpTo h R i m = joined m (λ j. cellRecords i j (cell h R i j))
 
+-- all records of row i
 unfoldable pub rowRecords : Header → List ℕ → ℕ → List Record
 rowRecords h R i = rowRecordsUpTo h R i (h .n)
 
+-- the text of row i, one of 01's 'rows 0 to n − 1'
 unfoldable pub rowText : Header → List ℕ → ℕ → List ℕ
 rowText h R i = recordsText (rowRecords h R i)
 

@@ -17,6 +17,7 @@ pub record Content : Type 0 where
   pub header : Header
   pub records : List Record
 
+-- not of 01: the header put to the records that were read behind it; a bad line stays bad
 unfoldable pub withHeader : Header → Reading (List Record) → Reading Content
 withHeader h (got rs rest) = got (record { header = h; records = rs }) rest
 withHeader h (badAt line) = badAt line
@@ -30,6 +31,7 @@ behindHeader (badAt line) = badAt line
 unfoldable pub contentOf : List ℕ → Reading Content
 contentOf text = behindHeader (linesOf headerLines text)
 
+-- some record passes the test: 'each over the whole text before the next'
 unfoldable pub anyRecord : (Record → Bool) → List Record → Bool
 anyRecord test [] = false
 anyRecord test (r ∷ rs) = test r || anyRecord test rs
@@ -42,6 +44,7 @@ outside h r = not (ltb (r .by) (h .n) && ltb (r .to) (h .n))
 unfoldable pub forbidden : Header → Record → Bool
 forbidden h r = barred h (r .by) (r .to)
 
+-- every cell empty: the register before any record is added
 unfoldable pub nothing : ℕ → ℕ → ℕ
 nothing i j = 0
 
@@ -63,6 +66,7 @@ readRefusal h size out barred tested =
     (firstOf (unless (leb (h .n * h .n) size) 2)
     (firstOf (unless (not out) 6) (firstOf (unless (not barred) 7) (unless tested 3))))
 
+-- the same of what a text says
 unfoldable pub contentRefusal : Content → ℕ → ℕ
 contentRefusal t size =
     readRefusal (t .header) size (anyRecord (outside (t .header)) (t .records)) (anyRecord (forbidden (t .header)) (t .records))
@@ -77,6 +81,7 @@ pub record RegisterRead : Type 0 where
   pub next : ℕ
   pub rest : List ℕ
 
+-- 'n, SOA and layer given as 0'
 unfoldable pub noHeader : Header
 noHeader = record { n = 0; soa = record { 0 = 0 }; layer = record { 0 = 0 } }
 

@@ -1,5 +1,5 @@
 -- What a loop over the records finds and leaves.
-use Prim.Native.Nat.{ℕ, _+_, _*_}
+use Prim.Native.Nat.{ℕ}
 use mathlib.Core.Path.{_≡_}
 use mathlib.Core.Bool.{Bool, false, _&&_, _||_, cond}
 use mathlib.Core.List.{List, [], _∷_}
@@ -7,19 +7,20 @@ use lib.Dec.{ltb}
 use lib.ListN.{length, getD, set, drop, replicate}
 use Rattle.rights.specs.declared.Header.{Header}
 use Rattle.rights.specs.Cell.{union}
+use Rattle.rights.specs.Register.{place}
 use Rattle.wording.specs.Lines.{Reading, got, badAt, offset}
 use Rattle.wording.specs.Records.{Record, first, recordsFrom}
-use Rattle.wording.specs.RegisterReader.{anyRecord, outside, forbidden}
+use Rattle.wording.specs.RegisterReader.{anyRecord, inRange, outside, forbidden}
 use Rattle.records.specs.declared.RecordsRead.{RecordsRead}
 use Rattle.records.specs.declared.RecordsRead.the-variants.{End, BadAt}
 
 -- the byte of a record's cell
 unfoldable pub placeOf : Header → Record → ℕ
-placeOf h r = r .by * h .n + r .to
+placeOf h r = place h (r .by) (r .to)
 
 -- the record has a cell, and a buffer of this size has room for it
 unfoldable pub roomFor : Header → ℕ → Record → Bool
-roomFor h size r = ltb (r .by) (h .n) && ltb (r .to) (h .n) && ltb (placeOf h r) size
+roomFor h size r = inRange h r && ltb (placeOf h r) size
 
 -- the buffer with the record added, where it has a cell
 unfoldable pub storedOne : Header → List ℕ → Record → List ℕ

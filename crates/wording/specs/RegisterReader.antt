@@ -36,9 +36,13 @@ unfoldable pub anyRecord : (Record → Bool) → List Record → Bool
 anyRecord test [] = false
 anyRecord test (r ∷ rs) = test r || anyRecord test rs
 
+-- both offices of the record are below n
+abbrev pub inRange : Header → Record → Bool
+inRange h r = ltb (r .by) (h .n) && ltb (r .to) (h .n)
+
 -- refusal 6: 'office number ≥ n'
 unfoldable pub outside : Header → Record → Bool
-outside h r = not (ltb (r .by) (h .n) && ltb (r .to) (h .n))
+outside h r = not (inRange h r)
 
 -- refusal 7: 'by equals to, or to is SOA'
 unfoldable pub forbidden : Header → Record → Bool

@@ -4,7 +4,7 @@
 use crate::plain::commands::Outcome;
 use crate::plain::printing::Written;
 use crate::plain::questions::Held;
-use crate::plain::readers::RegisterRead;
+use crate::plain::register_reader::RegisterRead;
 use crate::plain::rights::{Command, Entry, Header, Layer, Office, Ran, Tally};
 use rights_register as binding;
 use rights_register::raw;

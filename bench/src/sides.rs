@@ -4,9 +4,9 @@
 use crate::plain::commands::Outcome;
 use crate::plain::printing::Written;
 use crate::plain::questions::Held;
-use crate::plain::readers::RegisterRead;
+use crate::plain::register_reader::RegisterRead;
 use crate::plain::rights::{Command, Entry, Header, Office, Ran};
-use crate::plain::{commands, questions, readers, runs, writers};
+use crate::plain::{commands, frames, questions, register_reader, row_writer, runs};
 use crate::proved;
 
 pub struct Side {
@@ -33,8 +33,8 @@ pub const RUST: Side = Side {
     command: commands::command,
     run: runs::run,
     holding: questions::holding,
-    read_register: readers::read_register,
-    write_header: writers::write_header,
-    write_row: writers::write_row,
-    write_end: writers::write_end,
+    read_register: register_reader::read_register,
+    write_header: frames::write_header,
+    write_row: row_writer::write_row,
+    write_end: frames::write_end,
 };

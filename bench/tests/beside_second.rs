@@ -5,7 +5,9 @@
 mod support;
 
 use bench::plain::rights::{Command, Entry, Header, Layer, Office};
-use bench::plain::{commands, questions, readers, runs, writers};
+use bench::plain::{
+    command_reader, commands, frames, questions, register_reader, row_writer, runs,
+};
 use support::{random_clean_map, random_map, Map, Random};
 use support::{FF, FT, GRANT, LAYER, SGD, TF, TT};
 
@@ -267,7 +269,7 @@ fn registers_are_read_the_same() {
         let size = usize::from(map.n) * usize::from(map.n);
         let mut plain = vec![77; size + random.below(4) - usize::from(random.below(8) == 0)];
         let mut other = plain.clone();
-        let one = readers::read_register(&text, &mut plain);
+        let one = register_reader::read_register(&text, &mut plain);
         let two = second::read_register(&text, &mut other);
         let told = String::from_utf8_lossy(&text).into_owned();
         assert_eq!(
@@ -311,7 +313,7 @@ fn commands_are_read_the_same() {
         let [layer, by, to] = numbers;
         let told = format!("act={act}\nlayer={layer}\nby={by}\nto={to}\nperm={perm}\n");
         let text = damaged(&mut random, told.as_bytes());
-        let one = readers::read_command(&text);
+        let one = command_reader::read_command(&text);
         let two = second::read_command(&text);
         assert_eq!(
             (one.answer, one.at, one.next),
@@ -340,19 +342,19 @@ fn texts_are_written_the_same() {
         let row = any_office(&mut random, map.n);
         let mut plain = vec![77; random.below(400)];
         let mut other = plain.clone();
-        let one = writers::write_row(&map.cells, header(&map), Office(row), &mut plain);
+        let one = row_writer::write_row(&map.cells, header(&map), Office(row), &mut plain);
         let two = second::write_row(&map.cells, map.n, map.soa, row, &mut other);
         assert_eq!((one.answer, one.size), two, "{row} {map:?}");
         assert_eq!(plain, other, "{row} {map:?}");
         answers[usize::from(one.answer)] += 1;
 
         let room = random.below(30);
-        let one = writers::write_header(header(&map), &mut plain[..room.min(other.len())]);
+        let one = frames::write_header(header(&map), &mut plain[..room.min(other.len())]);
         let two = second::write_header(map.n, map.soa, LAYER, &mut other[..room.min(plain.len())]);
         assert_eq!((one.answer, one.size), two, "{map:?}");
         assert_eq!(plain, other, "{map:?}");
 
-        let one = writers::write_end(&mut plain);
+        let one = frames::write_end(&mut plain);
         let two = second::write_end(&mut other);
         assert_eq!((one.answer, one.size), two);
         assert_eq!(plain, other);

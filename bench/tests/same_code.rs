@@ -3,9 +3,12 @@
 
 use std::path::Path;
 
-const CRATES: [&str; 19] = [
+const CRATES: [&str; 28] = [
     "rights",
     "cells",
+    "carrying",
+    "registers",
+    "buffers",
     "levels",
     "sound",
     "holdings",
@@ -13,16 +16,22 @@ const CRATES: [&str; 19] = [
     "columns",
     "cuts",
     "tally",
-    "deletions",
+    "sweeping",
+    "local",
     "strong",
+    "refusals",
     "commands",
     "runs",
     "questions",
     "lines",
     "records",
-    "readers",
+    "register_reader",
+    "command_reader",
+    "rests",
     "printing",
-    "writers",
+    "answers",
+    "frames",
+    "row_writer",
 ];
 
 /// What is no code of a function's body or a type: only Rattle has contracts, and only Rust says what is derived. A list of

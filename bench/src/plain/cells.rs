@@ -1,7 +1,5 @@
 //! The functions of `crates/cells/src/lib.rt`.
 
-use super::rights::{Header, Office};
-
 pub fn is_code(perm: u8) -> bool {
     if perm == 8 {
         return true;
@@ -26,48 +24,6 @@ pub fn has(c: u8, perm: u8) -> bool {
         return c / 2 % 2 == 1;
     }
     c % 2 == 1
-}
-
-pub fn carries(c: u8, perm: u8) -> bool {
-    if perm == 8 {
-        return c / 8 % 2 == 1;
-    }
-    if perm == 4 {
-        return c / 4 % 4 != 0;
-    }
-    if perm == 2 {
-        return c / 8 % 2 + c / 2 % 2 != 0;
-    }
-    c % 16 != 0
-}
-
-fn needed(perm: u8) -> u8 {
-    match perm {
-        2 | 8 => 2,
-        _ => 1,
-    }
-}
-
-pub fn enough(perm: u8, level: u8) -> bool {
-    needed(perm) <= level
-}
-
-fn merged(two: u8) -> u8 {
-    if two == 0 {
-        0
-    } else {
-        1
-    }
-}
-
-pub fn restrict(c: u8, level: u8) -> u8 {
-    if level == 0 {
-        return 0;
-    }
-    if level == 1 {
-        return merged(c / 4 % 4) * 4 + merged(c % 4);
-    }
-    c
 }
 
 fn in_either(a: u8, b: u8, perm: u8) -> u8 {
@@ -100,35 +56,4 @@ pub fn without(a: u8, b: u8) -> u8 {
 
 pub fn size(c: u8) -> u8 {
     c / 8 % 2 + c / 4 % 2 + c / 2 % 2 + c % 2
-}
-
-pub fn cell(cells: &[u8], header: Header, by: Office, to: Office) -> u8 {
-    let at = by.0 as usize * header.n as usize + to.0 as usize;
-    if at < cells.len() {
-        return cells[at];
-    }
-    0
-}
-
-pub fn headed(header: Header) -> bool {
-    let n = header.n;
-    if n < 2 {
-        return false;
-    }
-    if 128 < n {
-        return false;
-    }
-    header.soa.0 < n
-}
-
-pub fn whole(cells: &[u8], header: Header) -> bool {
-    let n = header.n as usize;
-    cells.len() == n * n
-}
-
-pub fn readable(cells: &[u8], header: Header) -> bool {
-    if headed(header) {
-        return whole(cells, header);
-    }
-    false
 }

@@ -1,7 +1,7 @@
 //! The functions of `crates/columns/src/lib.rt`.
 
-use super::cells;
 use super::rights::Header;
+use super::{carrying, registers};
 
 fn column_level(mark: u8, level: u8) -> u8 {
     if mark == 0 {
@@ -14,7 +14,7 @@ fn column_level(mark: u8, level: u8) -> u8 {
 fn restrict_marked(row: &mut [u8], columns: [u8; 128], level: u8) {
     let mut y = 0;
     while y < row.len() {
-        row[y] = cells::restrict(row[y], column_level(columns[y], level));
+        row[y] = carrying::restrict(row[y], column_level(columns[y], level));
         y += 1;
     }
 }
@@ -36,7 +36,7 @@ fn restrict_each_marked(cells: &mut [u8], header: Header, columns: [u8; 128], le
 }
 
 pub fn restrict_columns(cells: &mut [u8], header: Header, columns: [u8; 128], levels: [u8; 128]) {
-    if cells::readable(cells, header) {
+    if registers::readable(cells, header) {
         restrict_each_marked(cells, header, columns, levels);
     }
 }

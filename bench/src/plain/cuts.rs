@@ -1,7 +1,7 @@
 //! The functions of `crates/cuts/src/lib.rt`.
 
-use super::cells;
 use super::rights::{Header, Office};
+use super::{cells, registers};
 
 fn store(cells: &mut [u8], header: Header, i: Office, j: Office, v: u8) {
     let n = header.n as usize;
@@ -16,7 +16,7 @@ fn store(cells: &mut [u8], header: Header, i: Office, j: Office, v: u8) {
 }
 
 pub fn empty_cell(cells: &mut [u8], header: Header, i: Office, j: Office) {
-    if cells::readable(cells, header) {
+    if registers::readable(cells, header) {
         store(cells, header, i, j, 0);
     }
 }
@@ -31,8 +31,8 @@ fn record_of(perm: u8) -> u8 {
 }
 
 pub fn add_record(cells: &mut [u8], header: Header, i: Office, j: Office, perm: u8) {
-    if cells::readable(cells, header) {
-        let c = cells::cell(cells, header, i, j);
+    if registers::readable(cells, header) {
+        let c = registers::cell(cells, header, i, j);
         store(cells, header, i, j, cells::union(c, record_of(perm)));
     }
 }
@@ -42,10 +42,10 @@ fn hand_cell(cells: &mut [u8], header: Header, i: Office, j: Office, k: Office, 
     let y = k.0;
     if y != x {
         let gone = cells::without(
-            cells::cell(before, header, j, k),
-            cells::cell(cells, header, j, k),
+            registers::cell(before, header, j, k),
+            registers::cell(cells, header, j, k),
         );
-        let c = cells::cell(cells, header, i, k);
+        let c = registers::cell(cells, header, i, k);
         store(cells, header, i, k, cells::union(c, gone));
     }
 }
@@ -59,8 +59,8 @@ fn hand_row(cells: &mut [u8], header: Header, i: Office, j: Office, before: &[u8
 }
 
 pub fn hand_over(cells: &mut [u8], header: Header, i: Office, j: Office, before: &[u8]) {
-    if cells::readable(before, header) {
-        if cells::readable(cells, header) {
+    if registers::readable(before, header) {
+        if registers::readable(cells, header) {
             hand_row(cells, header, i, j, before);
         }
     }

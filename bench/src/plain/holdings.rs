@@ -1,11 +1,11 @@
 //! The functions of `crates/holdings/src/lib.rt`.
 
 use super::rights::{Header, Office};
-use super::{cells, levels};
+use super::{carrying, levels, registers};
 
 fn passes_on(cells: &[u8], header: Header, levels: &[u8; 128], perm: u8, y: u16, x: u16) -> bool {
-    if cells::enough(perm, levels[x as usize]) {
-        return cells::carries(cells::cell(cells, header, Office(x), Office(y)), perm);
+    if carrying::enough(perm, levels[x as usize]) {
+        return carrying::carries(registers::cell(cells, header, Office(x), Office(y)), perm);
     }
     false
 }
@@ -92,8 +92,8 @@ fn loser_marks(
 }
 
 pub fn losers(before: &[u8], after: &[u8], header: Header) -> [u8; 128] {
-    if cells::readable(before, header) {
-        if cells::readable(after, header) {
+    if registers::readable(before, header) {
+        if registers::readable(after, header) {
             let before_levels = levels::levels(before, header);
             let after_levels = levels::levels(after, header);
             return loser_marks(before, &before_levels, after, &after_levels, header);

@@ -1,11 +1,11 @@
 //! The functions of `crates/levels/src/lib.rt`.
 
-use super::cells;
 use super::rights::{Header, Office};
+use super::{carrying, registers};
 
 fn links(cells: &[u8], header: Header, perm: u8, marks: &[bool; 128], x: u16, y: u16) -> bool {
     if marks[x as usize] {
-        return cells::carries(cells::cell(cells, header, Office(x), Office(y)), perm);
+        return carrying::carries(registers::cell(cells, header, Office(x), Office(y)), perm);
     }
     false
 }
@@ -114,14 +114,14 @@ fn levels_without(cells: &[u8], header: Header, out: u16) -> [u8; 128] {
 }
 
 pub fn levels(cells: &[u8], header: Header) -> [u8; 128] {
-    if cells::readable(cells, header) {
+    if registers::readable(cells, header) {
         return levels_without(cells, header, header.n);
     }
     [0u8; 128]
 }
 
 pub fn independent_levels(cells: &[u8], header: Header, office: Office) -> [u8; 128] {
-    if cells::readable(cells, header) {
+    if registers::readable(cells, header) {
         return levels_without(cells, header, office.0);
     }
     [0u8; 128]

@@ -114,19 +114,3 @@ pub fn write_three(
     let size = put_line(room, behind_second, c, z);
     Written { answer: 0, size }
 }
-
-pub fn write_answer(answer: u8, removed: u32, added: u32, room: &mut [u8]) -> Written {
-    write_three(
-        b"answer=",
-        answer as u32,
-        b"removed=",
-        removed,
-        b"added=",
-        added,
-        room,
-    )
-}
-
-pub fn write_refused(number: u8, at: u32, room: &mut [u8]) -> Written {
-    write_two(b"refused=", number as u32, b"at=", at, room)
-}

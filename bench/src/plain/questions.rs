@@ -1,7 +1,7 @@
 //! The functions of `crates/questions/src/lib.rt`.
 
 use super::rights::{Header, Office};
-use super::{cells, sound};
+use super::{carrying, cells, registers, sound};
 
 #[derive(Clone, Copy, Debug, PartialEq, Eq)]
 #[repr(C)]
@@ -19,7 +19,7 @@ fn passing_on(perm: u8) -> u8 {
 
 fn link_into(cells: &[u8], header: Header, perm: u8, set: &[bool; 128], x: u16, y: u16) -> bool {
     if set[y as usize] {
-        return cells::carries(cells::cell(cells, header, Office(x), Office(y)), perm);
+        return carrying::carries(registers::cell(cells, header, Office(x), Office(y)), perm);
     }
     false
 }

@@ -2,7 +2,7 @@
 
 use super::lines::{LineKind, LineRead, WordRead};
 use super::rights::{Header, Office};
-use super::{cells, lines};
+use super::{buffers, cells, lines};
 
 #[derive(Clone, Copy, Debug, PartialEq, Eq)]
 pub struct Record {
@@ -125,14 +125,6 @@ fn store(cells: &mut [u8], header: Header, told: Record) {
     }
 }
 
-pub fn clear(cells: &mut [u8]) {
-    let mut k = 0;
-    while k < cells.len() {
-        cells[k] = 0;
-        k += 1;
-    }
-}
-
 fn before_all() -> Record {
     Record {
         by: Office(0),
@@ -170,13 +162,13 @@ fn scan(text: &[u8], start: usize, header: Header, cells: &mut [u8]) -> RecordsR
 }
 
 pub fn read_records(text: &[u8], start: usize, header: Header, cells: &mut [u8]) -> RecordsRead {
-    clear(cells);
+    buffers::clear(cells);
     if text.len() < start {
         return RecordsRead::BadAt(text.len());
     }
     let read = scan(text, start, header, cells);
     if let RecordsRead::BadAt(_) = read {
-        clear(cells);
+        buffers::clear(cells);
     }
     read
 }

@@ -1,12 +1,12 @@
 //! The functions of `crates/rows/src/lib.rt`.
 
-use super::cells;
 use super::rights::{Header, Office};
+use super::{carrying, registers};
 
 pub fn restrict_row(row: &mut [u8], level: u8) {
     let mut y = 0;
     while y < row.len() {
-        row[y] = cells::restrict(row[y], level);
+        row[y] = carrying::restrict(row[y], level);
         y += 1;
     }
 }
@@ -28,14 +28,14 @@ fn restrict_each_row(cells: &mut [u8], header: Header, levels: [u8; 128]) {
 }
 
 pub fn restrict_rows(cells: &mut [u8], header: Header, levels: [u8; 128]) {
-    if cells::readable(cells, header) {
+    if registers::readable(cells, header) {
         restrict_each_row(cells, header, levels);
     }
 }
 
 pub fn restrict_one_row(cells: &mut [u8], header: Header, row: Office, level: u8) {
     let i = row.0;
-    if cells::readable(cells, header) {
+    if registers::readable(cells, header) {
         if i < header.n {
             restrict_row_of(cells, header, i as usize, level);
         }

@@ -1,27 +1,20 @@
 //! The functions of `crates/sound/src/lib.rt`.
 
 use super::rights::{Header, Office};
-use super::{cells, levels};
-
-fn barred(header: Header, i: u16, j: u16) -> bool {
-    if i == j {
-        return true;
-    }
-    j == header.soa.0
-}
+use super::{carrying, levels, registers};
 
 fn sound_cell(cells: &[u8], header: Header, levels: &[u8; 128], i: u16, j: u16) -> bool {
-    let c = cells::cell(cells, header, Office(i), Office(j));
+    let c = registers::cell(cells, header, Office(i), Office(j));
     if c == 0 {
         return true;
     }
     if 15 < c {
         return false;
     }
-    if barred(header, i, j) {
+    if registers::barred(header, Office(i), Office(j)) {
         return false;
     }
-    cells::restrict(c, levels[i as usize]) == c
+    carrying::restrict(c, levels[i as usize]) == c
 }
 
 fn sound_row(cells: &[u8], header: Header, levels: &[u8; 128], i: u16) -> bool {
@@ -49,10 +42,10 @@ fn sound_by(cells: &[u8], header: Header, levels: &[u8; 128]) -> bool {
 }
 
 pub fn register_refusal(cells: &[u8], header: Header) -> u8 {
-    if !cells::headed(header) {
+    if !registers::headed(header) {
         return 1;
     }
-    if !cells::whole(cells, header) {
+    if !registers::whole(cells, header) {
         return 2;
     }
     let levels = levels::levels(cells, header);

@@ -1,14 +1,14 @@
 //! The functions of `crates/strong/src/lib.rt`.
 
 use super::rights::{Header, Office};
-use super::{cells, columns, deletions, holdings, levels};
+use super::{buffers, columns, holdings, levels, local, registers, sweeping};
 
 fn same_row(a: &[u8], b: &[u8], header: Header, i: u16) -> bool {
     let n = header.n;
     let mut j = 0;
     while j < n {
-        if cells::cell(a, header, Office(i), Office(j))
-            != cells::cell(b, header, Office(i), Office(j))
+        if registers::cell(a, header, Office(i), Office(j))
+            != registers::cell(b, header, Office(i), Office(j))
         {
             return false;
         }
@@ -30,10 +30,10 @@ fn same(a: &[u8], b: &[u8], header: Header) -> bool {
 }
 
 fn strong_round(cells: &mut [u8], header: Header, own: [u8; 128], before: &[u8]) -> bool {
-    let kept = deletions::copied(cells);
+    let kept = buffers::copied(cells);
     let lost = holdings::losers(before, cells, header);
     columns::restrict_columns(cells, header, lost, own);
-    deletions::sweep(cells, header);
+    sweeping::sweep(cells, header);
     let length = cells.len();
     same(cells, &kept[0..length], header)
 }
@@ -50,11 +50,11 @@ fn rounds(cells: &mut [u8], header: Header, own: [u8; 128], before: &[u8]) {
 }
 
 pub fn sgd(cells: &mut [u8], header: Header, by: Office, to: Office) {
-    if cells::readable(cells, header) {
-        let before = deletions::copied(cells);
+    if registers::readable(cells, header) {
+        let before = buffers::copied(cells);
         let own = levels::independent_levels(cells, header, by);
-        deletions::column_step(cells, header, by, to);
-        deletions::sweep(cells, header);
+        local::column_step(cells, header, by, to);
+        sweeping::sweep(cells, header);
         let length = cells.len();
         rounds(cells, header, own, &before[0..length]);
     }

@@ -1,7 +1,7 @@
 //! The functions of `crates/tally/src/lib.rt`.
 
-use super::cells;
 use super::rights::Header;
+use super::{cells, registers};
 
 fn count_missing(before: &[u8], after: &[u8]) -> u32 {
     let mut sum: u32 = 0;
@@ -15,8 +15,8 @@ fn count_missing(before: &[u8], after: &[u8]) -> u32 {
 }
 
 pub fn missing(before: &[u8], after: &[u8], header: Header) -> u32 {
-    if cells::readable(before, header) {
-        if cells::readable(after, header) {
+    if registers::readable(before, header) {
+        if registers::readable(after, header) {
             return count_missing(before, after);
         }
     }

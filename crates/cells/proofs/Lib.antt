@@ -1,4 +1,3 @@
 -- What the proofs of several functions share.
 pub mod Byte
-pub mod Place
 pub mod Unique

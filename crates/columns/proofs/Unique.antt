@@ -4,7 +4,7 @@ use Prim.Native.Nat.{ℕ}
 use mathlib.Core.List.{List}
 use denote.Ref.{RefT, at-last}
 use Rattle.rights.specs.declared.Header.{Header}
-use Rattle.cells.proofs.Unique.{Once, no-second}
+use Rattle.theory.proofs.Once.{Once, no-second}
 use Rattle.columns.proofs.restrict_columns.Reads as restrict-columns
 
 pub restrict-columns-once :

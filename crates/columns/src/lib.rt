@@ -25,7 +25,7 @@ fn restrict_marked(row: &mut [u8], columns: [u8; 128], level: u8)
 {
     let mut y = 0;
     while y < row.len() {
-        row[y] = cells::restrict(row[y], column_level(columns[y], level));
+        row[y] = carrying::restrict(row[y], column_level(columns[y], level));
         y += 1;
     }
 }
@@ -58,7 +58,7 @@ fn restrict_each_marked(cells: &mut [u8], header: Header, columns: [u8; 128], le
 pub fn restrict_columns(cells: &mut [u8], header: Header, columns: [u8; 128], levels: [u8; 128])
     ensures { λ r. ⌜ now (cells .exit) ≡ ifWhole header (now (cells .entry)) (restricted header (now (cells .entry)) (columnsTo (isMarked columns) levels)) ⌝ }
 {
-    if cells::readable(cells, header) {
+    if registers::readable(cells, header) {
         restrict_each_marked(cells, header, columns, levels);
     }
 }

@@ -15,8 +15,8 @@ use Rattle.theory.proofs.Refusals.{command-passed}
 use Rattle.theory.proofs.Outcome.{outcome-done, outcome-ready}
 use Rattle.rows.specs.Whole.{ifWhole}
 use Rattle.tally.specs.Missing.{missingIfWhole}
-use Rattle.deletions.specs.Kept.{copyOf}
-use Rattle.deletions.proofs.Local.{Lent, lent}
+use Rattle.buffers.specs.Copy.{copyOf}
+use Rattle.local.proofs.Local.{Lent, lent}
 use Rattle.commands.specs.declared.Outcome.{Outcome}
 use Rattle.commands.specs.Post.{Answers}
 

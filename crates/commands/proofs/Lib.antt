@@ -1,4 +1,3 @@
 -- What the proofs of several functions share.
-pub mod Refusals
 pub mod Done
 pub mod Unique

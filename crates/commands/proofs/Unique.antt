@@ -3,13 +3,8 @@ use Prim.Native.Nat.{ℕ}
 use mathlib.Core.Path.{_≡_, sym, _∙_}
 use mathlib.Core.List.{List}
 use Rattle.rights.specs.Command.{Outcome as OutcomeOf}
-use Rattle.cells.proofs.Unique.{Once, no-second}
 use Rattle.commands.specs.declared.Outcome.{Outcome}
 use Rattle.commands.specs.Post.{Answers}
-use Rattle.commands.proofs.refusal.Reads as refusal
-
-pub refusal-once : (κs : _) (a : _) (exit : _) → Once (λ (r : ℕ). refusal.Post κs a r exit)
-refusal-once κs a exit = no-second _
 
 -- what `command` ensures leaves one answer, one tally and one register
 pub command-once : (o : OutcomeOf) (r s : Outcome) (R S : List ℕ) → Answers o r R → Answers o s S → (r ≡ s) × (R ≡ S)

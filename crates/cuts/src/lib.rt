@@ -29,7 +29,7 @@ fn store(cells: &mut [u8], header: Header, i: Office, j: Office, v: u8)
 pub fn empty_cell(cells: &mut [u8], header: Header, i: Office, j: Office)
     ensures { λ r. ⌜ now (cells .exit) ≡ ifWhole header (now (cells .entry)) (emptied header (now (cells .entry)) (i .0) (j .0)) ⌝ }
 {
-    if cells::readable(cells, header) {
+    if registers::readable(cells, header) {
         store(cells, header, i, j, 0);
     }
 }
@@ -50,8 +50,8 @@ fn record_of(perm: u8) -> u8
 pub fn add_record(cells: &mut [u8], header: Header, i: Office, j: Office, perm: u8)
     ensures { λ r. ⌜ now (cells .exit) ≡ ifWhole header (now (cells .entry)) (granted header (now (cells .entry)) (i .0) (j .0) (decoded perm)) ⌝ }
 {
-    if cells::readable(cells, header) {
-        let c = cells::cell(cells, header, i, j);
+    if registers::readable(cells, header) {
+        let c = registers::cell(cells, header, i, j);
         store(cells, header, i, j, cells::union(c, record_of(perm)));
     }
 }
@@ -65,10 +65,10 @@ fn hand_cell(cells: &mut [u8], header: Header, i: Office, j: Office, k: Office, 
     let y = k.0;
     if y != x {
         let gone = cells::without(
-            cells::cell(before, header, j, k),
-            cells::cell(cells, header, j, k),
+            registers::cell(before, header, j, k),
+            registers::cell(cells, header, j, k),
         );
-        let c = cells::cell(cells, header, i, k);
+        let c = registers::cell(cells, header, i, k);
         store(cells, header, i, k, cells::union(c, gone));
     }
 }
@@ -89,8 +89,8 @@ fn hand_row(cells: &mut [u8], header: Header, i: Office, j: Office, before: &[u8
 pub fn hand_over(cells: &mut [u8], header: Header, i: Office, j: Office, before: &[u8])
     ensures { λ r. ⌜ now (cells .exit) ≡ ifBothWhole header (now (before .entry)) (now (cells .entry)) (handedOver header (now (before .entry)) (now (cells .entry)) (i .0) (j .0)) ⌝ }
 {
-    if cells::readable(before, header) {
-        if cells::readable(cells, header) {
+    if registers::readable(before, header) {
+        if registers::readable(cells, header) {
             hand_row(cells, header, i, j, before);
         }
     }

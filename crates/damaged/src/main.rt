@@ -44,7 +44,7 @@ fn print_next_cells(cells: &[u8]) {
 // The buffer is lent without zeros in it, so that a refusal is seen to leave it zero.
 fn show(text: &[u8]) {
     let mut cells = [9u8; 25];
-    let read = readers::read_register(text, &mut cells);
+    let read = register_reader::read_register(text, &mut cells);
     print(b": answer=", read.answer as u64);
     print(b" at=", read.at as u64);
     print(b" rest=", read.next as u64);

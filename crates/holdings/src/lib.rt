@@ -16,8 +16,8 @@ fn passes_on(cells: &[u8], header: Header, levels: &[u8; 128], perm: u8, y: u16,
     requires { ⌜ x < 128 ⌝ }
     ensures { λ r. ⌜ r ≡ passesOn header (now (cells .entry)) (now (levels .entry)) (decoded perm) y x ⌝ }
 {
-    if cells::enough(perm, levels[x as usize]) {
-        return cells::carries(cells::cell(cells, header, Office(x), Office(y)), perm);
+    if carrying::enough(perm, levels[x as usize]) {
+        return carrying::carries(registers::cell(cells, header, Office(x), Office(y)), perm);
     }
     false
 }
@@ -127,8 +127,8 @@ fn loser_marks(
 pub fn losers(before: &[u8], after: &[u8], header: Header) -> [u8; 128]
     ensures { λ r. ⌜ r ≡ paddedLosers header (now (before .entry)) (now (after .entry)) ⌝ }
 {
-    if cells::readable(before, header) {
-        if cells::readable(after, header) {
+    if registers::readable(before, header) {
+        if registers::readable(after, header) {
             let before_levels = levels::levels(before, header);
             let after_levels = levels::levels(after, header);
             return loser_marks(before, &before_levels, after, &after_levels, header);

@@ -2,7 +2,7 @@
 -- `Post` is the contract as the check reads it: of the lifetimes, the arguments, the result and the arguments at exit.
 use Prim.Native.Nat.{ℕ}
 use mathlib.Core.List.{List}
-use Rattle.cells.proofs.Unique.{Once, no-second}
+use Rattle.theory.proofs.Once.{Once, no-second}
 use Rattle.levels.proofs.levels.Reads as levels
 use Rattle.levels.proofs.independent_levels.Reads as independent
 

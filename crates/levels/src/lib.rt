@@ -18,7 +18,7 @@ fn links(cells: &[u8], header: Header, perm: u8, marks: &[bool; 128], x: u16, y:
     ensures { λ r. ⌜ r ≡ linkedBy header (now (cells .entry)) (decoded perm) (now (marks .entry)) y x ⌝ }
 {
     if marks[x as usize] {
-        return cells::carries(cells::cell(cells, header, Office(x), Office(y)), perm);
+        return carrying::carries(registers::cell(cells, header, Office(x), Office(y)), perm);
     }
     false
 }
@@ -165,7 +165,7 @@ fn levels_without(cells: &[u8], header: Header, out: u16) -> [u8; 128]
 pub fn levels(cells: &[u8], header: Header) -> [u8; 128]
     ensures { λ r. ⌜ r ≡ paddedLevels header (now (cells .entry)) ⌝ }
 {
-    if cells::readable(cells, header) {
+    if registers::readable(cells, header) {
         return levels_without(cells, header, header.n);
     }
     [0u8; 128]
@@ -176,7 +176,7 @@ pub fn levels(cells: &[u8], header: Header) -> [u8; 128]
 pub fn independent_levels(cells: &[u8], header: Header, office: Office) -> [u8; 128]
     ensures { λ r. ⌜ r ≡ paddedIndependent header (now (cells .entry)) (office .0) ⌝ }
 {
-    if cells::readable(cells, header) {
+    if registers::readable(cells, header) {
         return levels_without(cells, header, office.0);
     }
     [0u8; 128]

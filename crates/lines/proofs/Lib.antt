@@ -3,4 +3,5 @@ pub mod Byte
 pub mod Digits
 pub mod Words
 pub mod Found
+pub mod SoFar
 pub mod Unique

@@ -11,9 +11,9 @@ use Rattle.rights.specs.Sound.{registerRefusal}
 use Rattle.wording.specs.RegisterReader.{registerRead}
 use Rattle.wording.proofs.RegisterText.{register-read-sound, register-within, register-rest}
 use Rattle.theory.proofs.Ready.{headed-high, ready-register}
-use Rattle.printing.specs.Answers.{refusedText}
-use Rattle.readers.specs.Told.{registerAnswer, RegisterTold}
-use Rattle.readers.specs.declared.RegisterRead.{RegisterRead}
+use Rattle.answers.specs.Answers.{refusedText}
+use Rattle.register_reader.specs.Told.{registerAnswer, RegisterTold}
+use Rattle.register_reader.specs.declared.RegisterRead.{RegisterRead}
 use Rattle.outputs.specs.Output.{commandsOutput, behindRegister}
 
 module _ (input buffer : List ℕ) (r : RegisterRead) (cells : List ℕ) (told : RegisterTold (registerRead input buffer) r cells) where

@@ -16,7 +16,7 @@ use Rattle.wording.specs.Lines.{linesText, commandLines, commandValues, command
 use Rattle.wording.specs.Records.{registerText}
 use Rattle.wording.specs.CommandReader.{commandRead}
 use Rattle.wording.proofs.CommandText.{command-read-written}
-use Rattle.printing.specs.Answers.{refusedText}
+use Rattle.answers.specs.Answers.{refusedText}
 use Rattle.outputs.specs.Output.{answerLines, commandsBy, commandsOutput}
 
 line-long : (k : Kind) (v : ℕ) → length (key k) + 1 ≤ length (lineText k v)

@@ -17,7 +17,7 @@ use Rattle.wording.specs.Records.{first, recordText, recordsText, byMay, toMay,
 use Rattle.wording.specs.RegisterReader.{withHeader, behindHeader, contentOf, anyRecord, outside, forbidden, nothing, added, filled, readRefusal, contentRefusal, registerDone, judged, registerRead}
 use Rattle.wording.specs.CommandReader.{commandJudged, commandRead}
 use Rattle.printing.specs.NumberLine.{numberLine}
-use Rattle.printing.specs.Answers.{answerText, refusedText}
+use Rattle.answers.specs.Answers.{answerText, refusedText}
 use Rattle.outputs.specs.Output.{answerLines, commandsBy, commandsOutput, behindRegister, output}
 
 -- 01, 'Program `regrun`': its input and the 'Whole output'

@@ -5,7 +5,7 @@ use mathlib.Core.List.{List}
 use lib.ListN.{length, length-append}
 use Rattle.wording.specs.Word.{bytes}
 use Rattle.printing.specs.NumberLine.{numberLine}
-use Rattle.printing.specs.Answers.{answerText, refusedText}
+use Rattle.answers.specs.Answers.{answerText, refusedText}
 use Rattle.wording.proofs.Digits.{few-digits}
 
 line-short : (key : List ℕ) (v : ℕ) → v < 2 ^ 32 → length (numberLine key v) ≤ length key + 11

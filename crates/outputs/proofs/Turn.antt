@@ -8,9 +8,9 @@ use Rattle.rights.specs.declared.Header.{Header}
 use Rattle.rights.specs.Command.{outcome}
 use Rattle.wording.specs.CommandReader.{commandRead}
 use Rattle.wording.proofs.CommandText.{command-rest, command-within}
-use Rattle.printing.specs.Answers.{answerText, refusedText}
-use Rattle.readers.specs.Told.{commandTold, commandAnswer}
-use Rattle.readers.specs.declared.CommandRead.{CommandRead}
+use Rattle.answers.specs.Answers.{answerText, refusedText}
+use Rattle.command_reader.specs.CommandTold.{commandTold, commandAnswer}
+use Rattle.command_reader.specs.declared.CommandRead.{CommandRead}
 use Rattle.commands.specs.declared.Outcome.{Outcome}
 use Rattle.commands.specs.Post.{Answers}
 use Rattle.outputs.specs.Output.{answerLines, commandsOutput}

@@ -7,7 +7,7 @@ use lib.ListN.{length, replicate}
 use borrow.Author.Tests.{lt-ltb, le-ltb, le-leb, lt-leb}
 use Rattle.rights.specs.Sound.{unless}
 use Rattle.wording.specs.RegisterReader.{registerRead}
-use Rattle.printing.specs.Answers.{refusedText}
+use Rattle.answers.specs.Answers.{refusedText}
 use Rattle.printing.specs.Put.{Put}
 use Rattle.printing.specs.Told.{Told}
 use Rattle.printing.proofs.Told.{told-refused, told-done}

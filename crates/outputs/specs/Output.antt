@@ -11,7 +11,7 @@ use Rattle.wording.specs.Records.{registerText}
 use Rattle.wording.specs.RegisterReader.{RegisterRead, registerRead}
 use Rattle.wording.specs.CommandReader.{commandRead}
 use Rattle.wording.specs.Writer.{Written, writtenBehind}
-use Rattle.printing.specs.Answers.{answerText, refusedText}
+use Rattle.answers.specs.Answers.{answerText, refusedText}
 
 -- 'For each command: `answer=` (0 or its refusal), `removed=` and `added=` (its own tally).'
 unfoldable pub answerLines : Outcome → List ℕ

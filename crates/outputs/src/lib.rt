@@ -9,7 +9,7 @@ ghost use Rattle.wording.specs.Word.{endText};
 ghost use Rattle.wording.specs.Lines.{headerText};
 ghost use Rattle.wording.specs.RegisterReader.{registerRead};
 ghost use Rattle.wording.specs.Records.{joined, rowText, registerText};
-ghost use Rattle.printing.specs.Answers.{answerText, refusedText};
+ghost use Rattle.answers.specs.Answers.{answerText, refusedText};
 ghost use Rattle.printing.specs.Put.{Put};
 ghost use Rattle.printing.specs.Told.{Told};
 ghost use Rattle.outputs.specs.Output.{commandsOutput, behindRegister, outputWritten};
@@ -24,7 +24,7 @@ fn put_answer(room: &mut [u8], from: usize, done: Outcome) -> usize
     ensures text { λ r. ⌜ Put (answerText (done .answer) (done .removed) (done .added)) (now (room .entry)) from (now (room .exit)) r ⌝ }
     ensures few { λ r. ⌜ r ≤ from + 54 ⌝ }
 {
-    let lines = printing::write_answer(done.answer, done.removed, done.added, &mut room[from..]);
+    let lines = answers::write_answer(done.answer, done.removed, done.added, &mut room[from..]);
     from + lines.size
 }
 
@@ -34,7 +34,7 @@ fn put_refused(room: &mut [u8], from: usize, number: u8, at: usize) -> usize
     ensures text { λ r. ⌜ Put (refusedText number at) (now (room .entry)) from (now (room .exit)) r ⌝ }
     ensures few { λ r. ⌜ r ≤ from + 33 ⌝ }
 {
-    let lines = printing::write_refused(number, at as u32, &mut room[from..]);
+    let lines = answers::write_refused(number, at as u32, &mut room[from..]);
     from + lines.size
 }
 
@@ -44,7 +44,7 @@ fn put_row(cells: &[u8], header: Header, row: Office, room: &mut [u8], from: usi
     ensures text { λ r. ⌜ Put (rowText header (now (cells .entry)) (row .0)) (now (room .entry)) from (now (room .exit)) r ⌝ }
     ensures few { λ r. ⌜ r ≤ from + 11264 ⌝ }
 {
-    let lines = writers::write_row(cells, header, row, &mut room[from..]);
+    let lines = row_writer::write_row(cells, header, row, &mut room[from..]);
     from + lines.size
 }
 
@@ -70,7 +70,7 @@ fn put_header(header: Header, room: &mut [u8], from: usize) -> usize
     ensures text { λ r. ⌜ Put (headerText header) (now (room .entry)) from (now (room .exit)) r ⌝ }
     ensures few { λ r. ⌜ r ≤ from + 26 ⌝ }
 {
-    let lines = writers::write_header(header, &mut room[from..]);
+    let lines = frames::write_header(header, &mut room[from..]);
     from + lines.size
 }
 
@@ -80,7 +80,7 @@ fn put_end(room: &mut [u8], from: usize) -> usize
     ensures text { λ r. ⌜ Put endText (now (room .entry)) from (now (room .exit)) r ⌝ }
     ensures few { λ r. ⌜ r ≤ from + 13 ⌝ }
 {
-    let line = writers::write_end(&mut room[from..]);
+    let line = frames::write_end(&mut room[from..]);
     from + line.size
 }
 
@@ -113,13 +113,13 @@ fn put_commands(
     if text.len() == 0 {
         return put_register(cells, header, room, from);
     }
-    let read = readers::read_command(text);
+    let read = command_reader::read_command(text);
     if read.answer != 0 {
         return put_refused(room, from, read.answer, at + read.at);
     }
     let done = commands::command(cells, header, read.command);
     let next = put_answer(room, from, done);
-    let rest = readers::command_rest(text, read);
+    let rest = rests::command_rest(text, read);
     put_commands(rest, at + read.next, cells, header, room, next)
 }
 
@@ -130,12 +130,12 @@ fn put_output(input: &[u8], room: &mut [u8]) -> usize
     ensures few { λ r. ⌜ r ≤ 1700000 ⌝ }
 {
     let mut buffer = [0u8; 16384];
-    let read = readers::read_register(input, &mut buffer);
+    let read = register_reader::read_register(input, &mut buffer);
     if read.answer != 0 {
         return put_refused(room, 0, read.answer, read.at);
     }
     let size = read.header.n as usize * read.header.n as usize;
-    let rest = readers::register_rest(input, read);
+    let rest = rests::register_rest(input, read);
     put_commands(rest, read.next, &mut buffer[0..size], read.header, room, 0)
 }
 

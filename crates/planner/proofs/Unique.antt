@@ -8,11 +8,13 @@ use Rattle.commands.specs.declared.Outcome.{Outcome}
 use Rattle.commands.proofs.Unique.{command-once}
 use Rattle.questions.specs.declared.Held.{Held}
 use Rattle.questions.proofs.Unique.{holding-once}
-use Rattle.readers.specs.declared.RegisterRead.{RegisterRead}
-use Rattle.readers.specs.declared.CommandRead.{CommandRead}
-use Rattle.readers.proofs.Unique.{read-register-once, read-command-once}
+use Rattle.register_reader.specs.declared.RegisterRead.{RegisterRead}
+use Rattle.command_reader.specs.declared.CommandRead.{CommandRead}
+use Rattle.command_reader.proofs.Unique.{read-command-once}
+use Rattle.register_reader.proofs.Unique.{read-register-once}
 use Rattle.printing.specs.declared.Written.{Written}
-use Rattle.writers.proofs.Unique.{write-header-once, write-row-once, write-end-once}
+use Rattle.frames.proofs.Unique.{write-header-once, write-end-once}
+use Rattle.row_writer.proofs.Unique.{write-row-once}
 use Rattle.planner.proofs.rights_command.Reads as command
 use Rattle.planner.proofs.rights_holding.Reads as holding
 use Rattle.planner.proofs.rights_read_register.Reads as read-register

@@ -1,10 +1,10 @@
 // The register for programs in C: each public function of the project's library crates that such a program calls, under a plain name
 // and with its own contract. A slice crosses as a pointer and a length, a struct by value.
+use command_reader::CommandRead;
 use commands::Outcome;
 use printing::Written;
 use questions::Held;
-use readers::CommandRead;
-use readers::RegisterRead;
+use register_reader::RegisterRead;
 use rights::Command;
 use rights::Entry;
 use rights::Header;
@@ -18,7 +18,8 @@ ghost use Rattle.wording.specs.RegisterReader.{registerRead};
 ghost use Rattle.wording.specs.Writer.{headerWritten, rowWritten, endWritten};
 ghost use Rattle.commands.specs.Post.{Answers};
 ghost use Rattle.printing.specs.Told.{Told};
-ghost use Rattle.readers.specs.Told.{RegisterTold, commandTold};
+ghost use Rattle.register_reader.specs.Told.{RegisterTold};
+ghost use Rattle.command_reader.specs.CommandTold.{commandTold};
 ghost use Rattle.runs.specs.Post.{RanAs};
 
 // One command: the answer, the tally, and the register as the command leaves it.
@@ -58,7 +59,7 @@ pub extern "C" fn rights_holding(
 pub extern "C" fn rights_read_register(text: &[u8], cells: &mut [u8]) -> RegisterRead
     ensures { λ r. ⌜ RegisterTold (registerRead (now (text .entry)) (now (cells .entry))) r (now (cells .exit)) ⌝ }
 {
-    readers::read_register(text, cells)
+    register_reader::read_register(text, cells)
 }
 
 // A command text: what was read, and where the rest starts.
@@ -66,7 +67,7 @@ pub extern "C" fn rights_read_register(text: &[u8], cells: &mut [u8]) -> Registe
 pub extern "C" fn rights_read_command(text: &[u8]) -> CommandRead
     ensures { λ r. ⌜ r ≡ commandTold (now (text .entry)) ⌝ }
 {
-    readers::read_command(text)
+    command_reader::read_command(text)
 }
 
 // The header of a register's text.
@@ -74,7 +75,7 @@ pub extern "C" fn rights_read_command(text: &[u8]) -> CommandRead
 pub extern "C" fn rights_write_header(header: Header, room: &mut [u8]) -> Written
     ensures { λ r. ⌜ Told (headerWritten header (now (room .entry))) r (now (room .exit)) ⌝ }
 {
-    writers::write_header(header, room)
+    frames::write_header(header, room)
 }
 
 // The records of one office, as grantor.
@@ -87,7 +88,7 @@ pub extern "C" fn rights_write_row(
 ) -> Written
     ensures { λ r. ⌜ Told (rowWritten header (now (cells .entry)) (row .0) (now (room .entry))) r (now (room .exit)) ⌝ }
 {
-    writers::write_row(cells, header, row, room)
+    row_writer::write_row(cells, header, row, room)
 }
 
 // The line behind the last row.
@@ -95,5 +96,5 @@ pub extern "C" fn rights_write_row(
 pub extern "C" fn rights_write_end(room: &mut [u8]) -> Written
     ensures { λ r. ⌜ Told (endWritten (now (room .entry))) r (now (room .exit)) ⌝ }
 {
-    writers::write_end(room)
+    frames::write_end(room)
 }

@@ -12,8 +12,6 @@ use Rattle.printing.proofs.digits.Reads as digits
 use Rattle.printing.proofs.write_bytes.Reads as write-bytes
 use Rattle.printing.proofs.write_two.Reads as write-two
 use Rattle.printing.proofs.write_three.Reads as write-three
-use Rattle.printing.proofs.write_answer.Reads as write-answer
-use Rattle.printing.proofs.write_refused.Reads as write-refused
 
 -- an outcome is told in one way
 pub told-once :
@@ -40,13 +38,3 @@ pub write-three-once :
     (κs : _) (a : _) (r s : Written) (exit other : _) → write-three.Post κs a r exit → write-three.Post κs a s other →
     (r ≡ s) × (now (exit .1 .1 .1 .1 .1 .1 .0) ≡ now (other .1 .1 .1 .1 .1 .1 .0))
 write-three-once κs a r s exit other p q = told-once p q
-
-pub write-answer-once :
-    (κs : _) (a : _) (r s : Written) (exit other : _) → write-answer.Post κs a r exit → write-answer.Post κs a s other →
-    (r ≡ s) × (now (exit .1 .1 .1 .0) ≡ now (other .1 .1 .1 .0))
-write-answer-once κs a r s exit other p q = told-once p q
-
-pub write-refused-once :
-    (κs : _) (a : _) (r s : Written) (exit other : _) → write-refused.Post κs a r exit → write-refused.Post κs a s other →
-    (r ≡ s) × (now (exit .1 .1 .0) ≡ now (other .1 .1 .0))
-write-refused-once κs a r s exit other p q = told-once p q

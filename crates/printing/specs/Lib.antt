@@ -2,4 +2,3 @@
 pub mod Put
 pub mod Told
 pub mod NumberLine
-pub mod Answers

@@ -9,7 +9,6 @@ ghost use Rattle.wording.specs.Writer.{writtenBehind};
 ghost use Rattle.printing.specs.Told.{Told};
 ghost use Rattle.printing.specs.Put.{Room, Put};
 ghost use Rattle.printing.specs.NumberLine.{numberLine};
-ghost use Rattle.printing.specs.Answers.{answerWritten, refusedWritten};
 
 // What a writer answers: 0 or the refusal, and the length of what it wrote.
 #[repr(C)]
@@ -149,26 +148,4 @@ pub fn write_three(a: &[u8], x: u32, b: &[u8], y: u32, c: &[u8], z: u32, room: &
     let behind_second = put_line(room, behind_first, b, y);
     let size = put_line(room, behind_second, c, z);
     Written { answer: 0, size }
-}
-
-// What a command answered, and how many records it removed and added.
-pub fn write_answer(answer: u8, removed: u32, added: u32, room: &mut [u8]) -> Written
-    ensures { λ r. ⌜ Told (answerWritten answer removed added (now (room .entry))) r (now (room .exit)) ⌝ }
-{
-    write_three(
-        b"answer=",
-        answer as u32,
-        b"removed=",
-        removed,
-        b"added=",
-        added,
-        room,
-    )
-}
-
-// The refusal of an input, and where in it the first bad line starts.
-pub fn write_refused(number: u8, at: u32, room: &mut [u8]) -> Written
-    ensures { λ r. ⌜ Told (refusedWritten number at (now (room .entry))) r (now (room .exit)) ⌝ }
-{
-    write_two(b"refused=", number as u32, b"at=", at, room)
 }

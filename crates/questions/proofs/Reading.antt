@@ -4,7 +4,7 @@ use mathlib.Core.Path.{_≡_}
 use mathlib.Core.Logic.{_⊎_}
 use Rattle.rights.specs.Permission.{decoded, passing}
 use Rattle.theory.proofs.Cell.{passing-2, passing-1}
-use Rattle.cells.proofs.Byte.{need-whole, need-part}
+use Rattle.carrying.proofs.Carried.{need-whole, need-part}
 
 -- TT alone passes TT and FT on
 pub passed-whole : {k : ℕ} → (k ≡ 2) ⊎ (k ≡ 8) → passing (decoded k) ≡ decoded 8

@@ -37,7 +37,7 @@ fn link_into(cells: &[u8], header: Header, perm: u8, set: &[bool; 128], x: u16, 
     ensures { λ r. ⌜ r ≡ linkInto header (now (cells .entry)) (decoded perm) (now (set .entry)) x y ⌝ }
 {
     if set[y as usize] {
-        return cells::carries(cells::cell(cells, header, Office(x), Office(y)), perm);
+        return carrying::carries(registers::cell(cells, header, Office(x), Office(y)), perm);
     }
     false
 }

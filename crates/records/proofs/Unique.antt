@@ -4,11 +4,7 @@
 use mathlib.Core.Path.{_≡_, sym, _∙_}
 use denote.Ref.{now}
 use Rattle.records.specs.declared.RecordsRead.{RecordsRead}
-use Rattle.records.proofs.clear.Reads as clear
 use Rattle.records.proofs.read_records.Reads as read-records
-
-pub clear-once : (κs : _) (a : _) (exit other : _) → clear.Post κs a tt exit → clear.Post κs a tt other → now (exit .0) ≡ now (other .0)
-clear-once κs a exit other p q = p ∙ sym q
 
 pub read-records-once :
     (κs : _) (a : _) (r s : RecordsRead) (exit other : _) → read-records.Post κs a r exit → read-records.Post κs a s other →

@@ -7,7 +7,7 @@ use rights::Office;
 ghost use mathlib.Core.Path.{_≡_};
 ghost use mathlib.Core.Bool.{_||_};
 ghost use Prim.Native.Nat.{_≤_};
-ghost use lib.ListN.{length, drop, replicate};
+ghost use lib.ListN.{length, drop};
 ghost use Rattle.wording.specs.Word.{toLine, permLine};
 ghost use Rattle.wording.specs.Line.{lineOf};
 ghost use Rattle.wording.specs.Records.{first, toMay, permMay, withPerm, withTo};
@@ -170,17 +170,6 @@ fn store(cells: &mut [u8], header: Header, told: Record)
     }
 }
 
-// Zero in every byte.
-pub fn clear(cells: &mut [u8])
-    ensures { λ r. ⌜ now (cells .exit) ≡ replicate (length (now (cells .entry))) 0 ⌝ }
-{
-    let mut k = 0;
-    while k < cells.len() {
-        cells[k] = 0;
-        k += 1;
-    }
-}
-
 // What stands in for the record before the first one: every record comes after it.
 fn before_all() -> Record
     ensures { λ r. ⌜ textRecord r ≡ first ⌝ }
@@ -229,13 +218,13 @@ fn scan(text: &[u8], start: usize, header: Header, cells: &mut [u8]) -> RecordsR
 pub fn read_records(text: &[u8], start: usize, header: Header, cells: &mut [u8]) -> RecordsRead
     ensures { λ r. ⌜ RecordsTold (recordsAt (now (text .entry)) start header (length (now (cells .entry)))) (length (now (cells .entry))) r (now (cells .exit)) ⌝ }
 {
-    clear(cells);
+    buffers::clear(cells);
     if text.len() < start {
         return RecordsRead::BadAt(text.len());
     }
     let read = scan(text, start, header, cells);
     if let RecordsRead::BadAt(_) = read {
-        clear(cells);
+        buffers::clear(cells);
     }
     read
 }

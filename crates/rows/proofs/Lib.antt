@@ -3,4 +3,5 @@ pub mod Table
 pub mod Part
 pub mod Rows
 pub mod Guard
+pub mod Whole
 pub mod Unique

@@ -15,7 +15,7 @@ pub fn restrict_row(row: &mut [u8], level: u8)
 {
     let mut y = 0;
     while y < row.len() {
-        row[y] = cells::restrict(row[y], level);
+        row[y] = carrying::restrict(row[y], level);
         y += 1;
     }
 }
@@ -48,7 +48,7 @@ fn restrict_each_row(cells: &mut [u8], header: Header, levels: [u8; 128])
 pub fn restrict_rows(cells: &mut [u8], header: Header, levels: [u8; 128])
     ensures { λ r. ⌜ now (cells .exit) ≡ ifWhole header (now (cells .entry)) (restricted header (now (cells .entry)) (rowsTo levels)) ⌝ }
 {
-    if cells::readable(cells, header) {
+    if registers::readable(cells, header) {
         restrict_each_row(cells, header, levels);
     }
 }
@@ -58,7 +58,7 @@ pub fn restrict_one_row(cells: &mut [u8], header: Header, row: Office, level: u8
     ensures { λ r. ⌜ now (cells .exit) ≡ ifWhole header (now (cells .entry)) (restricted header (now (cells .entry)) (rowTo (row .0) level)) ⌝ }
 {
     let i = row.0;
-    if cells::readable(cells, header) {
+    if registers::readable(cells, header) {
         if i < header.n {
             restrict_row_of(cells, header, i as usize, level);
         }

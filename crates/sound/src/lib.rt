@@ -4,34 +4,24 @@ use rights::Office;
 ghost use mathlib.Core.Path.{_≡_};
 ghost use Prim.Native.Nat.{_≤_, _<_};
 ghost use Rattle.rights.specs.Below.{allBelow};
-ghost use Rattle.rights.specs.Sound.{barred as isBarred, soundCell, soundBy, registerRefusal};
-
-// Whether no grant may stand there: on the diagonal and in SOA's column.
-fn barred(header: Header, i: u16, j: u16) -> bool
-    ensures { λ r. ⌜ r ≡ isBarred header i j ⌝ }
-{
-    if i == j {
-        return true;
-    }
-    j == header.soa.0
-}
+ghost use Rattle.rights.specs.Sound.{soundCell, soundBy, registerRefusal};
 
 // Whether the cell may stand as it is. An empty cell may stand anywhere.
 fn sound_cell(cells: &[u8], header: Header, levels: &[u8; 128], i: u16, j: u16) -> bool
     requires { ⌜ i < 128 ⌝ }
     ensures { λ r. ⌜ r ≡ soundCell header (now (cells .entry)) (now (levels .entry)) i j ⌝ }
 {
-    let c = cells::cell(cells, header, Office(i), Office(j));
+    let c = registers::cell(cells, header, Office(i), Office(j));
     if c == 0 {
         return true;
     }
     if 15 < c {
         return false;
     }
-    if barred(header, i, j) {
+    if registers::barred(header, Office(i), Office(j)) {
         return false;
     }
-    cells::restrict(c, levels[i as usize]) == c
+    carrying::restrict(c, levels[i as usize]) == c
 }
 
 // Whether each cell of row i may stand.
@@ -70,10 +60,10 @@ fn sound_by(cells: &[u8], header: Header, levels: &[u8; 128]) -> bool
 pub fn register_refusal(cells: &[u8], header: Header) -> u8
     ensures { λ r. ⌜ r ≡ registerRefusal header (now (cells .entry)) ⌝ }
 {
-    if !cells::headed(header) {
+    if !registers::headed(header) {
         return 1;
     }
-    if !cells::whole(cells, header) {
+    if !registers::whole(cells, header) {
         return 2;
     }
     let levels = levels::levels(cells, header);

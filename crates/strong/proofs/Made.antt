@@ -23,10 +23,10 @@ use Rattle.holdings.specs.Loser.{markBy, paddedLosers}
 use Rattle.rows.specs.Whole.{ifWhole}
 use Rattle.rows.proofs.Guard.{in-whole}
 use Rattle.columns.specs.Marked.{isMarked}
-use Rattle.deletions.specs.Kept.{copyOf}
-use Rattle.deletions.proofs.Whole.{still-whole}
-use Rattle.deletions.proofs.Made.{length-column-step}
-use Rattle.deletions.proofs.Copy.{copy-start}
+use Rattle.buffers.specs.Copy.{copyOf}
+use Rattle.rows.proofs.Whole.{still-whole}
+use Rattle.local.proofs.Made.{length-column-step}
+use Rattle.buffers.proofs.Copy.{copy-start}
 use Rattle.strong.proofs.Rest.{until-padded}
 
 mark-tells : (t : Bool) → not (eqb (cond t 1 0) 0) ≡ t

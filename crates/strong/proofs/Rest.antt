@@ -18,7 +18,7 @@ use Rattle.theory.proofs.Sweep.{length-sweep}
 use Rattle.theory.proofs.Rest.{until-same, until-next}
 use Rattle.levels.specs.Padded.{padded}
 use Rattle.levels.proofs.Given.{level-padded}
-use Rattle.deletions.proofs.Whole.{still-whole}
+use Rattle.rows.proofs.Whole.{still-whole}
 use Rattle.strong.proofs.Alike.{same-registers}
 
 module _ (h : Header) (R own : List ℕ) where

@@ -15,8 +15,8 @@ fn same_row(a: &[u8], b: &[u8], header: Header, i: u16) -> bool
     let n = header.n;
     let mut j = 0;
     while j < n {
-        if cells::cell(a, header, Office(i), Office(j))
-            != cells::cell(b, header, Office(i), Office(j))
+        if registers::cell(a, header, Office(i), Office(j))
+            != registers::cell(b, header, Office(i), Office(j))
         {
             return false;
         }
@@ -46,10 +46,10 @@ fn strong_round(cells: &mut [u8], header: Header, own: [u8; 128], before: &[u8])
     ensures after { λ r. ⌜ now (cells .exit) ≡ strongRound header (now (before .entry)) own (now (cells .entry)) ⌝ }
     ensures rests { λ r. ⌜ r ≡ sameCells header (now (cells .exit)) (now (cells .entry)) ⌝ }
 {
-    let kept = deletions::copied(cells);
+    let kept = buffers::copied(cells);
     let lost = holdings::losers(before, cells, header);
     columns::restrict_columns(cells, header, lost, own);
-    deletions::sweep(cells, header);
+    sweeping::sweep(cells, header);
     let length = cells.len();
     same(cells, &kept[0..length], header)
 }
@@ -74,11 +74,11 @@ fn rounds(cells: &mut [u8], header: Header, own: [u8; 128], before: &[u8])
 pub fn sgd(cells: &mut [u8], header: Header, by: Office, to: Office)
     ensures { λ r. ⌜ now (cells .exit) ≡ ifWhole header (now (cells .entry)) (strongGlobal header (now (cells .entry)) (by .0) (to .0)) ⌝ }
 {
-    if cells::readable(cells, header) {
-        let before = deletions::copied(cells);
+    if registers::readable(cells, header) {
+        let before = buffers::copied(cells);
         let own = levels::independent_levels(cells, header, by);
-        deletions::column_step(cells, header, by, to);
-        deletions::sweep(cells, header);
+        local::column_step(cells, header, by, to);
+        sweeping::sweep(cells, header);
         let length = cells.len();
         rounds(cells, header, own, &before[0..length]);
     }

@@ -26,8 +26,8 @@ fn count_missing(before: &[u8], after: &[u8]) -> u32
 pub fn missing(before: &[u8], after: &[u8], header: Header) -> u32
     ensures { λ r. ⌜ r ≡ missingIfWhole header (now (before .entry)) (now (after .entry)) ⌝ }
 {
-    if cells::readable(before, header) {
-        if cells::readable(after, header) {
+    if registers::readable(before, header) {
+        if registers::readable(after, header) {
             return count_missing(before, after);
         }
     }

@@ -1,4 +1,5 @@
 -- What is proved of the definitions of document 01, from the ground up.
+pub mod Once
 pub mod Tests
 pub mod Below
 pub mod Growth

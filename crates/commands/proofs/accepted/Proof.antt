@@ -3,7 +3,7 @@ use native.Mathlib.Omega.{arith}
 use Prim.Native.Nat.{ℕ, _-_}
 use mathlib.Core.Path.{_≡_, ap}
 use lib.ListN.{length, take}
-use Rattle.deletions.proofs.Local.{few-cells}
+use Rattle.buffers.proofs.Copy.{few-cells}
 use Rattle.commands.proofs.Done.{looked-back, done-as}
 use borrow.Author.Needs.{needs}
 use Rattle.commands.proofs.accepted.Statement.{statement}

@@ -20,8 +20,8 @@ use Rattle.commands.proofs.command.Reads as command-reads
 use Rattle.outputs.proofs.put_answer.Reads as put-answer
 use Rattle.outputs.proofs.put_refused.Reads as put-refused
 use Rattle.outputs.proofs.put_register.Reads as put-register
-use Rattle.readers.proofs.command_rest.Reads as command-rest
-use Rattle.readers.proofs.read_command.Reads as read-command
+use Rattle.rests.proofs.command_rest.Reads as command-rest
+use Rattle.command_reader.proofs.read_command.Reads as read-command
 use Rattle.outputs.proofs.+put_commands.{statement}
 use Rattle.outputs.proofs.+put_commands.Tie.{close}
 

@@ -2,7 +2,7 @@
 use native.Mathlib.Omega.{arith}
 use mathlib.Core.Path.{refl}
 use borrow.Author.Needs.{needs}
-use Rattle.cells.proofs.Place.{product}
+use Rattle.registers.proofs.Place.{product}
 use Rattle.records.specs.Read.{textRecord}
 use Rattle.records.specs.Stored.{placeOf}
 use Rattle.records.proofs.place.Statement.{statement}

@@ -6,7 +6,7 @@ use mathlib.Core.List.{List}
 use borrow.Author.Needs.{needs}
 use Rattle.rights.specs.Sound.{readable}
 use Rattle.rows.proofs.Guard.{changed-if, kept-if}
-use Rattle.deletions.proofs.Local.{few-cells}
+use Rattle.buffers.proofs.Copy.{few-cells}
 use Rattle.strong.proofs.Made.{kept-part, start-made, start-whole, sgd-made}
 use Rattle.strong.proofs.sgd.Statement.{statement}
 use Rattle.strong.proofs.sgd.Tie as tie

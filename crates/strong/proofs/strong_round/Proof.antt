@@ -5,7 +5,7 @@ use borrow.Author.Needs.{needs}
 use Prim.Native.Nat.{ℕ}
 use mathlib.Core.List.{List}
 use Rattle.rights.specs.Deletion.{same}
-use Rattle.deletions.proofs.Local.{few-cells}
+use Rattle.buffers.proofs.Copy.{few-cells}
 use Rattle.strong.proofs.Made.{round-made, kept-part}
 use Rattle.strong.proofs.strong_round.Statement.{statement}
 use Rattle.strong.proofs.strong_round.Tie as tie

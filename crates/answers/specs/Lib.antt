@@ -1,0 +1,2 @@
+-- What the lines of the program say.
+pub mod Answers

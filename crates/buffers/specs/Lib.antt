@@ -1,0 +1,2 @@
+-- What the copy of a register is.
+pub mod Copy

@@ -1,2 +1,0 @@
--- What the helpers of the deletions give.
-pub mod Kept

@@ -1,0 +1,4 @@
+-- What the proofs of several functions share.
+pub mod Made
+pub mod Local
+pub mod Unique

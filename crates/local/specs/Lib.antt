@@ -1,0 +1,2 @@
+-- What a helper of the local deletions gives.
+pub mod Mark

@@ -1,2 +1,0 @@
--- What the readers answer and leave, by the definitions of the text.
-pub mod Told

@@ -1,0 +1,2 @@
+-- What the rest of a text is.
+pub mod Rest

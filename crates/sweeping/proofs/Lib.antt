@@ -1,0 +1,4 @@
+-- What the proofs of several functions share.
+pub mod Padded
+pub mod Swept
+pub mod Unique

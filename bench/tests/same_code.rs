@@ -3,7 +3,7 @@
 
 use std::path::Path;
 
-const CRATES: [&str; 28] = [
+const CRATES: [&str; 29] = [
     "rights",
     "cells",
     "carrying",
@@ -23,6 +23,7 @@ const CRATES: [&str; 28] = [
     "commands",
     "runs",
     "questions",
+    "numbers",
     "lines",
     "records",
     "register_reader",

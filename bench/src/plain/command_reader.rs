@@ -1,7 +1,8 @@
 //! The functions of `crates/command_reader/src/lib.rt`.
 
 use super::lines;
-use super::lines::{LineKind, LineRead};
+use super::lines::LineKind;
+use super::numbers::LineRead;
 use super::rights::{Command, Layer, Office};
 
 #[derive(Clone, Copy, Debug, PartialEq, Eq)]

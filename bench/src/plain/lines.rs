@@ -1,15 +1,12 @@
 //! The functions of `crates/lines/src/lib.rt`.
 
+use super::numbers;
+use super::numbers::LineRead;
+
 #[derive(Clone, Copy, Debug, PartialEq, Eq)]
 pub enum WordRead {
     Next(usize),
     Other,
-}
-
-#[derive(Clone, Copy, Debug, PartialEq, Eq)]
-pub enum LineRead {
-    Value(u16, usize),
-    Bad,
 }
 
 #[derive(Clone, Copy, Debug, PartialEq, Eq)]
@@ -35,54 +32,6 @@ fn word(text: &[u8], at: usize, bytes: &[u8]) -> WordRead {
         k += 1;
     }
     WordRead::Next(at + k)
-}
-
-fn is_digit(b: u8) -> bool {
-    if b < 48 {
-        return false;
-    }
-    b <= 57
-}
-
-fn goes_on(v: u16, b: u8) -> bool {
-    if is_digit(b) {
-        if v < 1 {
-            return false;
-        }
-        return 10 * (v as u32) + (b as u32 - 48) <= 65535;
-    }
-    false
-}
-
-fn extend(v: u16, b: u8) -> u16 {
-    10 * v + (b as u16 - 48)
-}
-
-fn first_digit(b: u8) -> u16 {
-    b as u16 - 48
-}
-
-fn number(text: &[u8], at: usize) -> LineRead {
-    if text.len() <= at {
-        return LineRead::Bad;
-    }
-    if !is_digit(text[at]) {
-        return LineRead::Bad;
-    }
-    let mut v = first_digit(text[at]);
-    let mut i = at + 1;
-    while i < text.len() {
-        let b = text[i];
-        if b == 10 {
-            return LineRead::Value(v, i + 1);
-        }
-        if !goes_on(v, b) {
-            return LineRead::Bad;
-        }
-        v = extend(v, b);
-        i += 1;
-    }
-    LineRead::Bad
 }
 
 fn choice(text: &[u8], at: usize, bytes: &[u8], v: u16, other: LineRead) -> LineRead {
@@ -124,7 +73,7 @@ fn value(text: &[u8], at: usize, kind: LineKind) -> LineRead {
     match kind {
         LineKind::Act => act(text, at),
         LineKind::Perm => perm(text, at),
-        _ => number(text, at),
+        _ => numbers::number(text, at),
     }
 }
 

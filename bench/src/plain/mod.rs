@@ -17,6 +17,7 @@ pub mod holdings;
 pub mod levels;
 pub mod lines;
 pub mod local;
+pub mod numbers;
 pub mod printing;
 pub mod questions;
 pub mod records;

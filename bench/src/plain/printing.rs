@@ -1,20 +1,12 @@
 //! The functions of `crates/printing/src/lib.rt`.
 
+use super::numbers;
+
 #[derive(Clone, Copy, Debug, PartialEq, Eq)]
 #[repr(C)]
 pub struct Written {
     pub answer: u8,
     pub size: usize,
-}
-
-pub fn digits(v: u32) -> usize {
-    let mut count = 1;
-    let mut rest = v;
-    while 10 <= rest {
-        rest /= 10;
-        count += 1;
-    }
-    count
 }
 
 fn put_byte(room: &mut [u8], at: usize, b: u8) -> usize {
@@ -47,7 +39,7 @@ fn put_line(room: &mut [u8], at: usize, key: &[u8], v: u32) -> usize {
 }
 
 fn line_size(key: &[u8], v: u32) -> usize {
-    key.len() + digits(v) + 1
+    key.len() + numbers::digits(v) + 1
 }
 
 pub fn write_bytes(text: &[u8], room: &mut [u8]) -> Written {

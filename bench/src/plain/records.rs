@@ -1,6 +1,7 @@
 //! The functions of `crates/records/src/lib.rt`.
 
-use super::lines::{LineKind, LineRead, WordRead};
+use super::lines::{LineKind, WordRead};
+use super::numbers::LineRead;
 use super::rights::{Header, Office};
 use super::{buffers, cells, lines};
 

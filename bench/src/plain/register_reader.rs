@@ -1,6 +1,7 @@
 //! The functions of `crates/register_reader/src/lib.rt`.
 
-use super::lines::{LineKind, LineRead};
+use super::lines::LineKind;
+use super::numbers::LineRead;
 use super::records::RecordsRead;
 use super::rights::{Header, Layer, Office};
 use super::{buffers, lines, records, registers, sound};

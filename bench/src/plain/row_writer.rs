@@ -2,7 +2,7 @@
 
 use super::printing::Written;
 use super::rights::{Header, Office};
-use super::{cells, printing, registers, sound};
+use super::{cells, numbers, printing, registers, sound};
 
 fn perm_line(perm: u8) -> [u8; 8] {
     if perm == 8 {
@@ -18,7 +18,7 @@ fn perm_line(perm: u8) -> [u8; 8] {
 }
 
 fn cell_size(by: Office, to: Office, c: u8) -> usize {
-    let record = 16 + printing::digits(by.0 as u32) + printing::digits(to.0 as u32);
+    let record = 16 + numbers::digits(by.0 as u32) + numbers::digits(to.0 as u32);
     cells::size(c) as usize * record
 }
 
@@ -27,11 +27,8 @@ fn row_size(cells: &[u8], header: Header, row: Office) -> usize {
     let mut size = 0;
     let mut to = 0;
     while to < n {
-        size += cell_size(
-            row,
-            Office(to),
-            registers::cell(cells, header, row, Office(to)),
-        );
+        let c = registers::cell(cells, header, row, Office(to));
+        size += cell_size(row, Office(to), c);
         to += 1;
     }
     size

@@ -29,9 +29,9 @@ pub fn copied(cells: &[u8]) -> [u8; 16384]
 pub fn clear(cells: &mut [u8])
     ensures { λ r. ⌜ now (cells .exit) ≡ replicate (length (now (cells .entry))) 0 ⌝ }
 {
-    let mut k = 0;
-    while k < cells.len() {
-        cells[k] = 0;
-        k += 1;
+    let mut at = 0;
+    while at < cells.len() {
+        cells[at] = 0;
+        at += 1;
     }
 }

@@ -7,8 +7,8 @@ use Rattle.wording.specs.Word.{Kind, layerLine, actLine, byLine, toLine, permLi
 use Rattle.wording.specs.Lines.{commandLines, commandOf}
 use Rattle.wording.specs.CommandReader.{commandJudged, commandRead}
 use Rattle.lines.specs.Read.{lineAt}
-use Rattle.lines.specs.declared.LineRead.the-variants.{Bad}
-use Rattle.lines.proofs.Byte.{offset-drop}
+use Rattle.numbers.specs.declared.LineRead.the-variants.{Bad}
+use Rattle.numbers.proofs.Byte.{offset-drop}
 use Rattle.lines.proofs.SoFar.{LinesSoFar, start, lines-stop, lines-all}
 use Rattle.command_reader.specs.CommandTold.{commandAnswer, commandTold, commandRefused}
 

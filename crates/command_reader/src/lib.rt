@@ -1,6 +1,6 @@
 // The reader of a command: what was read by value, and where in the text the rest starts.
 use lines::LineKind;
-use lines::LineRead;
+use numbers::LineRead;
 use rights::Command;
 use rights::Layer;
 use rights::Office;

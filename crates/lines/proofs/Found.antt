@@ -16,9 +16,10 @@ use Rattle.wording.specs.Lines.{offset}
 use Rattle.wording.proofs.Line.{line-read}
 use Rattle.wording.proofs.Lines.{rest-within}
 use Rattle.wording.proofs.Truth.{never}
-use Rattle.lines.specs.Read.{lineRead, lineAt, endAt}
+use Rattle.numbers.specs.Line.{lineRead}
+use Rattle.lines.specs.Read.{lineAt, endAt}
 use Rattle.lines.specs.declared.WordRead.the-variants.{Next, Other}
-use Rattle.lines.specs.declared.LineRead.the-variants.{Value, Bad}
+use Rattle.numbers.specs.declared.LineRead.the-variants.{Value, Bad}
 use Rattle.lines.proofs.Words.{no-line, no-end, WordFound, word-found, other-word}
 
 -- a line with a value: what the definitions read there, and that the next line starts within the text

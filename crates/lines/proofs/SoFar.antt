@@ -7,7 +7,7 @@ use lib.ListN.{length, drop}
 use Rattle.wording.specs.Word.{Kind}
 use Rattle.wording.specs.Lines.{Reading, got, badAt, andBefore, linesOf}
 use Rattle.lines.specs.Read.{lineAt}
-use Rattle.lines.specs.declared.LineRead.the-variants.{Value, Bad}
+use Rattle.numbers.specs.declared.LineRead.the-variants.{Value, Bad}
 use Rattle.lines.proofs.Found.{line-found, line-bad}
 
 -- the values read so far, before what is read behind them

@@ -2,7 +2,7 @@
 -- `Post` is the contract as the check reads it: of the lifetimes, the arguments, the result and the arguments at exit.
 use mathlib.Core.Path.{_≡_, sym, _∙_}
 use Rattle.lines.specs.declared.WordRead.{WordRead}
-use Rattle.lines.specs.declared.LineRead.{LineRead}
+use Rattle.numbers.specs.declared.LineRead.{LineRead}
 use Rattle.lines.proofs.line.Reads as line
 use Rattle.lines.proofs.end_line.Reads as end-line
 

@@ -12,13 +12,14 @@ use Rattle.wording.specs.Lines.{offset}
 use Rattle.wording.proofs.Line.{after-word-read}
 use Rattle.wording.proofs.Lines.{rest-within}
 use Rattle.wording.proofs.Truth.{never}
-use Rattle.lines.specs.Read.{kindOf, wordRead, choiceRead, lineRead, lineAt, endAt}
+use Rattle.numbers.specs.Line.{lineRead}
+use Rattle.lines.specs.Read.{kindOf, wordRead, choiceRead, lineAt, endAt}
 use Rattle.lines.specs.declared.LineKind.{LineKind}
 use Rattle.lines.specs.declared.LineKind.the-variants.{N, Soa, Layer, Act, By, To, Perm}
 use Rattle.lines.proofs.LineKind.{the-type}
 use Rattle.lines.specs.declared.WordRead.the-variants.{Next, Other}
-use Rattle.lines.specs.declared.LineRead.{LineRead}
-use Rattle.lines.specs.declared.LineRead.the-variants.{Bad}
+use Rattle.numbers.specs.declared.LineRead.{LineRead}
+use Rattle.numbers.specs.declared.LineRead.the-variants.{Bad}
 
 -- the first of the words, or else one of the others
 choice-first : (text : List ℕ) (c : Choice) (cs : List Choice) (t : List ℕ) →

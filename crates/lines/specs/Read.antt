@@ -3,12 +3,13 @@ use Prim.Native.Nat.{ℕ}
 use mathlib.Core.List.{List}
 use lib.ListN.{drop}
 use Rattle.wording.specs.Word.{Kind, nLine, soaLine, layerLine, actLine, byLine, toLine, permLine, endText}
-use Rattle.wording.specs.Line.{After, after, otherwise, afterWord, Line, value, bad, lineOf}
+use Rattle.wording.specs.Line.{After, after, otherwise, afterWord, lineOf}
 use Rattle.wording.specs.Lines.{offset}
 use Rattle.lines.specs.declared.WordRead.{WordRead}
 use Rattle.lines.specs.declared.WordRead.the-variants.{Next, Other}
-use Rattle.lines.specs.declared.LineRead.{LineRead}
-use Rattle.lines.specs.declared.LineRead.the-variants.{Value, Bad}
+use Rattle.numbers.specs.declared.LineRead.{LineRead}
+use Rattle.numbers.specs.declared.LineRead.the-variants.{Value}
+use Rattle.numbers.specs.Line.{lineRead}
 use Rattle.lines.specs.declared.LineKind.{LineKind}
 use Rattle.lines.specs.declared.LineKind.the-variants.{N, Soa, Layer, Act, By, To, Perm}
 
@@ -26,11 +27,6 @@ kindOf Perm = permLine
 unfoldable pub wordRead : List ℕ → After → WordRead
 wordRead text (after rest) = Next (offset text rest)
 wordRead text otherwise = Other
-
--- a line's value, and where in the text the next line starts
-unfoldable pub lineRead : List ℕ → Line → LineRead
-lineRead text (value v rest) = Value v (offset text rest)
-lineRead text bad = Bad
 
 -- the value of one word, or what the words behind it in a list give
 unfoldable pub choiceRead : ℕ → WordRead → LineRead → LineRead

@@ -1,23 +1,18 @@
 // One line of the text: its value, and where in the text the next line starts; or that it is bad.
 // A line reader says no more of a bad line, since its caller knows where the line starts.
+use numbers::LineRead;
 ghost use mathlib.Core.Path.{_≡_};
-ghost use mathlib.Core.Bool.{true};
 ghost use Prim.Native.Nat.{_-_, _≤_};
 ghost use lib.ListN.{length, drop};
 ghost use Rattle.wording.specs.Word.{key as keyOf, acts, perms, form};
-ghost use Rattle.wording.specs.Line.{afterWord, isDigit, goesOn, extended, number as numberIn, chosen, valueOf};
-ghost use Rattle.lines.specs.Read.{kindOf, wordRead, choiceRead, lineRead, lineAt, endAt};
+ghost use Rattle.wording.specs.Line.{afterWord, chosen, valueOf};
+ghost use Rattle.numbers.specs.Line.{lineRead};
+ghost use Rattle.lines.specs.Read.{kindOf, wordRead, choiceRead, lineAt, endAt};
 
 // Where the text goes on behind a word, or that another word stands there.
 pub enum WordRead {
     Next(usize),
     Other,
-}
-
-// The value of a line and where the next line starts, or that it is bad (refusal 13).
-pub enum LineRead {
-    Value(u16, usize),
-    Bad,
 }
 
 // The kinds of line that have a value.
@@ -47,72 +42,6 @@ fn word(text: &[u8], at: usize, bytes: &[u8]) -> WordRead
         k += 1;
     }
     WordRead::Next(at + k)
-}
-
-// Whether the byte is a digit, 0 to 9.
-fn is_digit(b: u8) -> bool
-    ensures { λ r. ⌜ r ≡ isDigit b ⌝ }
-{
-    if b < 48 {
-        return false;
-    }
-    b <= 57
-}
-
-// Whether the number may go on with this byte: no digit follows a leading 0, and none leads above 65535.
-fn goes_on(v: u16, b: u8) -> bool
-    ensures { λ r. ⌜ r ≡ goesOn v b ⌝ }
-{
-    if is_digit(b) {
-        if v < 1 {
-            return false;
-        }
-        return 10 * (v as u32) + (b as u32 - 48) <= 65535;
-    }
-    false
-}
-
-// The number with one more digit.
-fn extend(v: u16, b: u8) -> u16
-    requires { ⌜ goesOn v b ≡ true ⌝ }
-    ensures { λ r. ⌜ r ≡ extended v b ⌝ }
-{
-    10 * v + (b as u16 - 48)
-}
-
-// The first digit, as a number.
-fn first_digit(b: u8) -> u16
-    requires { ⌜ isDigit b ≡ true ⌝ }
-    ensures { λ r. ⌜ r ≡ b - 48 ⌝ }
-{
-    b as u16 - 48
-}
-
-// A number and LF.
-fn number(text: &[u8], at: usize) -> LineRead
-    requires { ⌜ at ≤ length (now text) ⌝ }
-    ensures { λ r. ⌜ r ≡ lineRead (now (text .entry)) (numberIn (drop at (now (text .entry)))) ⌝ }
-{
-    if text.len() <= at {
-        return LineRead::Bad;
-    }
-    if !is_digit(text[at]) {
-        return LineRead::Bad;
-    }
-    let mut v = first_digit(text[at]);
-    let mut i = at + 1;
-    while i < text.len() {
-        let b = text[i];
-        if b == 10 {
-            return LineRead::Value(v, i + 1);
-        }
-        if !goes_on(v, b) {
-            return LineRead::Bad;
-        }
-        v = extend(v, b);
-        i += 1;
-    }
-    LineRead::Bad
 }
 
 // The value v if the word stands there, and otherwise what the words behind it in the list give.
@@ -174,7 +103,7 @@ fn value(text: &[u8], at: usize, kind: LineKind) -> LineRead
     match kind {
         LineKind::Act => act(text, at),
         LineKind::Perm => perm(text, at),
-        _ => number(text, at),
+        _ => numbers::number(text, at),
     }
 }
 

@@ -8,7 +8,6 @@ use denote.Ref.{now}
 use Rattle.wording.specs.Writer.{Written as Outcome}
 use Rattle.printing.specs.declared.Written.{Written}
 use Rattle.printing.specs.Told.{Told}
-use Rattle.printing.proofs.digits.Reads as digits
 use Rattle.printing.proofs.write_bytes.Reads as write-bytes
 use Rattle.printing.proofs.write_two.Reads as write-two
 use Rattle.printing.proofs.write_three.Reads as write-three
@@ -20,9 +19,6 @@ told-once p q = (
   ap₂ (λ (answer size : ℕ). record { answer = answer; size = size }) (p .answered ∙ sym (q .answered)) (p .sized ∙ sym (q .sized)),
   p .left ∙ sym (q .left),
 )
-
-pub digits-once : (κs : _) (a : _) (r s : ℕ) (exit other : _) → digits.Post κs a r exit → digits.Post κs a s other → r ≡ s
-digits-once κs a r s exit other p q = p .0 ∙ sym (q .0)
 
 pub write-bytes-once :
     (κs : _) (a : _) (r s : Written) (exit other : _) → write-bytes.Post κs a r exit → write-bytes.Post κs a s other →

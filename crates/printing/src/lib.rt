@@ -17,20 +17,6 @@ pub struct Written {
     pub size: usize,
 }
 
-// How many digits a number has in decimal.
-pub fn digits(v: u32) -> usize
-    ensures value { λ r. ⌜ r ≡ length (numeral v) ⌝ }
-    ensures few { λ r. ⌜ r ≤ 10 ⌝ }
-{
-    let mut count = 1;
-    let mut rest = v;
-    while 10 <= rest {
-        rest /= 10;
-        count += 1;
-    }
-    count
-}
-
 // Writes a byte, and gives the place behind it.
 fn put_byte(room: &mut [u8], at: usize, b: u8) -> usize
     requires { ⌜ Room (b ∷ []) (now room) at ⌝ }
@@ -80,7 +66,7 @@ fn put_line(room: &mut [u8], at: usize, key: &[u8], v: u32) -> usize
 fn line_size(key: &[u8], v: u32) -> usize
     ensures { λ r. ⌜ r ≡ length (numberLine (now (key .entry)) v) ⌝ }
 {
-    key.len() + digits(v) + 1
+    key.len() + numbers::digits(v) + 1
 }
 
 // Writes bytes, if there is room for them.

@@ -15,7 +15,7 @@ use Rattle.wording.proofs.Records.{Before, before-first, before-next, record-re
 use Rattle.wording.proofs.Steps.{recordsOn, step-end, step-more, step-bad}
 use Rattle.lines.specs.Read.{endAt}
 use Rattle.lines.specs.declared.WordRead.the-variants.{Next, Other}
-use Rattle.lines.proofs.Byte.{offset-drop}
+use Rattle.numbers.proofs.Byte.{offset-drop}
 use Rattle.lines.proofs.Found.{end-found, end-other}
 use Rattle.records.specs.Read.{textRecord, typedRecord, recordRead}
 use Rattle.records.specs.Stored.{placeOf, roomFor, storedOne, storedAll, stopped, foundOn, foundAt, foundIs}

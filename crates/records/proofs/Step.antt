@@ -8,8 +8,8 @@ use Rattle.wording.specs.Word.{byLine, toLine, permLine}
 use Rattle.wording.specs.Line.{lineOf}
 use Rattle.wording.specs.Records.{Record, byMay, toMay, permMay, withPerm, withTo, withBy, recordFrom}
 use Rattle.lines.specs.Read.{lineAt}
-use Rattle.lines.specs.declared.LineRead.the-variants.{Value, Bad}
-use Rattle.lines.proofs.Byte.{offset-drop}
+use Rattle.numbers.specs.declared.LineRead.the-variants.{Value, Bad}
+use Rattle.numbers.proofs.Byte.{offset-drop}
 use Rattle.lines.proofs.Found.{line-found, line-bad}
 use Rattle.records.specs.Read.{typedRecord, recordRead}
 use Rattle.records.specs.declared.RecordRead.the-variants.{Got, BadAt}

@@ -1,7 +1,7 @@
 // The records of a register's text, one after the other up to the end line, each added to the cells as it is read.
 use lines::LineKind;
-use lines::LineRead;
 use lines::WordRead;
+use numbers::LineRead;
 use rights::Header;
 use rights::Office;
 ghost use mathlib.Core.Path.{_≡_};

@@ -5,8 +5,8 @@ use mathlib.Core.List.{List, [], _∷_}
 use Rattle.wording.specs.Word.{Kind, nLine, soaLine, layerLine}
 use Rattle.wording.specs.Lines.{headerLines, headerOf}
 use Rattle.lines.specs.Read.{lineAt}
-use Rattle.lines.specs.declared.LineRead.the-variants.{Bad}
-use Rattle.lines.proofs.Byte.{offset-drop}
+use Rattle.numbers.specs.declared.LineRead.the-variants.{Bad}
+use Rattle.numbers.proofs.Byte.{offset-drop}
 use Rattle.lines.proofs.SoFar.{LinesSoFar, start, lines-stop, lines-all}
 use Rattle.register_reader.specs.Told.{headerRead, headerIn}
 use Rattle.register_reader.specs.declared.HeaderRead.the-variants.{Got, BadAt}

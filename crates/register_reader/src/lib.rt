@@ -1,6 +1,6 @@
 // The reader of a register: the header by value, the cells in a lent buffer, and where in the text the rest starts.
 use lines::LineKind;
-use lines::LineRead;
+use numbers::LineRead;
 use records::RecordsRead;
 use rights::Header;
 use rights::Layer;

@@ -33,7 +33,7 @@ fn cell_size(by: Office, to: Office, c: u8) -> usize
     ensures value { λ r. ⌜ r ≡ length (cellText (by .0) (to .0) c) ⌝ }
     ensures few { λ r. ⌜ r ≤ 144 ⌝ }
 {
-    let record = 16 + printing::digits(by.0 as u32) + printing::digits(to.0 as u32);
+    let record = 16 + numbers::digits(by.0 as u32) + numbers::digits(to.0 as u32);
     cells::size(c) as usize * record
 }
 
@@ -45,11 +45,8 @@ fn row_size(cells: &[u8], header: Header, row: Office) -> usize
     let mut size = 0;
     let mut to = 0;
     while to < n {
-        size += cell_size(
-            row,
-            Office(to),
-            registers::cell(cells, header, row, Office(to)),
-        );
+        let c = registers::cell(cells, header, row, Office(to));
+        size += cell_size(row, Office(to), c);
         to += 1;
     }
     size

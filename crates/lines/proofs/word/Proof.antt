@@ -2,7 +2,7 @@
 use Prim.Native.Nat.{_-_}
 use native.Mathlib.Omega.{arith}
 use lib.ListN.{length}
-use Rattle.lines.proofs.Byte.{WordSoFar, word-start, word-more, word-stop, word-short, word-end}
+use Rattle.lines.proofs.WordSoFar.{WordSoFar, word-start, word-more, word-stop, word-short, word-end}
 use Rattle.lines.proofs.word.Statement.{statement}
 use Rattle.lines.proofs.word.Tie as tie
 

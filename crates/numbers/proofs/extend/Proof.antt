@@ -1,9 +1,9 @@
--- `lines::extend` meets its contract: a number that may go on fits 16 bits. Assumes nothing.
+-- `numbers::extend` meets its contract: a number that may go on fits 16 bits. Assumes nothing.
 use native.Mathlib.Omega.{arith}
 use Rattle.wording.specs.Line.{extended}
 use Rattle.wording.proofs.Number.{goes-on}
-use Rattle.lines.proofs.extend.Statement.{statement}
-use Rattle.lines.proofs.extend.Tie as tie
+use Rattle.numbers.proofs.extend.Statement.{statement}
+use Rattle.numbers.proofs.extend.Tie as tie
 
 mul-result : tie.Need-mul-result
 unfolding extended

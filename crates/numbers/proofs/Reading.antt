@@ -10,9 +10,9 @@ use borrow.Author.Tests.{leb-true, le-leb, lt-leb, eq-eqb, ne-eqb}
 use Rattle.theory.proofs.Tests.{left-of, right-of}
 use Rattle.wording.specs.Line.{isDigit, extended, goesOn, digits, number}
 use Rattle.wording.proofs.Number.{goes-on, digits-more, digits-stop, digits-end}
-use Rattle.lines.specs.Read.{lineRead}
-use Rattle.lines.specs.declared.LineRead.the-variants.{Value, Bad}
-use Rattle.lines.proofs.Byte.{from-byte, offset-drop}
+use Rattle.numbers.specs.Line.{lineRead}
+use Rattle.numbers.specs.declared.LineRead.the-variants.{Value, Bad}
+use Rattle.numbers.proofs.Byte.{from-byte, offset-drop}
 
 pub record Digit (b : ℕ) : Type 0 where
   pub low : 48 ≤ b

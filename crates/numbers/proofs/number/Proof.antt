@@ -1,13 +1,13 @@
--- `lines::number` meets its contract. The loop's invariant: the digits left give what the whole number gives. Assumes nothing.
+-- `numbers::number` meets its contract. The loop's invariant: the digits left give what the whole number gives. Assumes nothing.
 use Prim.Native.Nat.{_-_}
 use native.Mathlib.Omega.{arith}
 use mathlib.Core.Path.{sym, _∙_}
 use lib.ListN.{length}
 use borrow.Author.Needs.{needs}
 use borrow.Author.Tests.{not-true, not-false}
-use Rattle.lines.proofs.Digits.{NumberSoFar, number-none, number-other, number-start, number-more, number-stop, number-end, number-missing}
-use Rattle.lines.proofs.number.Statement.{statement}
-use Rattle.lines.proofs.number.Tie as tie
+use Rattle.numbers.proofs.Reading.{NumberSoFar, number-none, number-other, number-start, number-more, number-stop, number-end, number-missing}
+use Rattle.numbers.proofs.number.Statement.{statement}
+use Rattle.numbers.proofs.number.Tie as tie
 
 abbrev Inv-loop : tie.InvT-loop
 Inv-loop text at v₀ i₀ v i = NumberSoFar text at v i

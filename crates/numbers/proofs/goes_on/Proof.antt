@@ -1,10 +1,10 @@
--- `lines::goes_on` meets its contract: no digit follows a leading 0, and none leads above 65535. Assumes nothing.
+-- `numbers::goes_on` meets its contract: no digit follows a leading 0, and none leads above 65535. Assumes nothing.
 use native.Mathlib.Omega.{arith}
 use mathlib.Core.Path.{sym, _∙_}
 use borrow.Author.Needs.{needs}
-use Rattle.lines.proofs.Digits.{is-a-digit, not-with, not-behind-zero, not-above}
-use Rattle.lines.proofs.goes_on.Statement.{statement}
-use Rattle.lines.proofs.goes_on.Tie as tie
+use Rattle.numbers.proofs.Reading.{is-a-digit, not-with, not-behind-zero, not-above}
+use Rattle.numbers.proofs.goes_on.Statement.{statement}
+use Rattle.numbers.proofs.goes_on.Tie as tie
 
 is-digit-requires : tie.Need-is-digit-requires
 is-digit-requires c κs = search needs

@@ -1,9 +1,9 @@
--- `lines::first_digit` meets its contract: a digit is at least 48. Assumes nothing.
+-- `numbers::first_digit` meets its contract: a digit is at least 48. Assumes nothing.
 use native.Mathlib.Omega.{arith}
 use borrow.Author.Needs.{needs}
-use Rattle.lines.proofs.Digits.{is-a-digit}
-use Rattle.lines.proofs.first_digit.Statement.{statement}
-use Rattle.lines.proofs.first_digit.Tie as tie
+use Rattle.numbers.proofs.Reading.{is-a-digit}
+use Rattle.numbers.proofs.first_digit.Statement.{statement}
+use Rattle.numbers.proofs.first_digit.Tie as tie
 
 sub-result : tie.Need-sub-result
 sub-result c = let d = is-a-digit _ (c .pre) in omega arith

@@ -1,4 +1,4 @@
--- `printing::digits` meets its contract: with each division by ten the digits left are one fewer. Assumes nothing.
+-- `numbers::digits` meets its contract: with each division by ten the digits left are one fewer. Assumes nothing.
 use Prim.Native.Nat.{_+_, _≤_}
 use native.Mathlib.Omega.{arith}
 use mathlib.Core.Path.{_≡_, refl}
@@ -6,8 +6,8 @@ use lib.ListN.{length}
 use borrow.Author.Needs.{needs}
 use Rattle.wording.specs.Line.{numeral}
 use Rattle.wording.proofs.Digits.{one-digit, more-digits, few-digits}
-use Rattle.printing.proofs.digits.Statement.{statement}
-use Rattle.printing.proofs.digits.Tie as tie
+use Rattle.numbers.proofs.digits.Statement.{statement}
+use Rattle.numbers.proofs.digits.Tie as tie
 
 abbrev Inv-loop : tie.InvT-loop
 Inv-loop v count₀ rest₀ count rest = (count + length (numeral rest) ≡ 1 + length (numeral v)) × (count + rest ≤ v + 1)

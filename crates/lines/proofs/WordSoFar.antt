@@ -1,26 +1,15 @@
--- Reading on by one byte, at a place in the text. Assumes nothing.
+-- Reading a word, byte by byte, at a place in the text. Assumes nothing.
 use Prim.Native.Nat.{ℕ, _+_, _-_, _≤_, _<_}
 use mathlib.Core.Path.{_≡_, refl, sym, _∙_}
-use mathlib.Core.List.{List, _∷_}
-use native.Mathlib.Numerals.{add-one}
+use mathlib.Core.List.{List}
 use native.Mathlib.Omega.{arith}
-use lib.ListN.{length, getD, drop, length-drop, drop-of-length-le}
-use lib.Seq.{drop-cons}
+use lib.ListN.{length, getD, drop, drop-of-length-le}
 use borrow.Author.Tests.{eq-eqb, ne-eqb}
 use Rattle.wording.specs.Line.{afterWord}
-use Rattle.wording.specs.Lines.{offset}
 use Rattle.wording.proofs.Line.{after-word-more, after-word-stop}
 use Rattle.lines.specs.Read.{wordRead}
 use Rattle.lines.specs.declared.WordRead.the-variants.{Next, Other}
-
--- what stands from the byte `at` on is found there again
-pub offset-drop : (text : List ℕ) (at : ℕ) → at ≤ length text → offset text (drop at text) ≡ at
-unfolding offset
-offset-drop text at h = rw length-drop (omega arith)
-
--- from a byte on: it, and what stands behind it
-pub from-byte : (l : List ℕ) (k : ℕ) → k < length l → drop k l ≡ getD l k 0 ∷ drop (k + 1) l
-from-byte l k h = rw (add-one, drop-cons l k 0)
+use Rattle.numbers.proofs.Byte.{offset-drop, from-byte}
 
 -- k bytes of the word have been read: what is left of it gives what the whole word gives
 pub record WordSoFar (text : List ℕ) (at : ℕ) (bytes : List ℕ) (k : ℕ) : Type 0 where

@@ -1,0 +1,2 @@
+-- What the reader of a number answers, by the definitions of the text.
+pub mod Line

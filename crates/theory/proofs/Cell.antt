@@ -271,6 +271,23 @@ entitles-trans TF FF p e f = clash f refl
 entitles-trans FT q p e f = e
 entitles-trans FF q p e f = e
 
+-- what entitles q entitles whatever q serves for
+pub entitles-serves : (r q p : Permission) → entitles r q ≡ true → serves q p ≡ true → entitles r p ≡ true
+unfolding entitles serves stronger code
+entitles-serves TT q p e f = refl
+entitles-serves TF TT p e f = clash e refl
+entitles-serves TF TF TT e f = f
+entitles-serves TF TF TF e f = refl
+entitles-serves TF TF FT e f = f
+entitles-serves TF TF FF e f = refl
+entitles-serves TF FT p e f = clash e refl
+entitles-serves TF FF TT e f = f
+entitles-serves TF FF TF e f = refl
+entitles-serves TF FF FT e f = f
+entitles-serves TF FF FF e f = refl
+entitles-serves FT q p e f = e
+entitles-serves FF q p e f = e
+
 pub TT-serves : (p : Permission) → serves TT p ≡ true
 unfolding serves stronger code
 TT-serves TT = refl
@@ -333,6 +350,21 @@ serves-need r p e =
     leb-true (need p) (need r)
     (right-of (serves r (passing p)) (leb (need p) (need r))
     (sym (by-pairs (λ r p. serves r (passing p)) (λ r p. serves r (passing p) && leb (need p) (need r)) refl r p) ∙ e))
+
+-- nor does a record that serves where p is read
+pub serves-least : (r p : Permission) → serves r p ≡ true → need p ≤ need r
+unfolding eachPermission serves stronger code need
+serves-least r p e =
+    leb-true (need p) (need r)
+    (right-of (serves r p) (leb (need p) (need r)) (sym (by-pairs (λ r p. serves r p) (λ r p. serves r p && leb (need p) (need r)) refl r p) ∙ e))
+
+-- and what passes p on serves where p is read
+pub passing-serves : (p : Permission) → serves (passing p) p ≡ true
+unfolding passing serves stronger code
+passing-serves TT = refl
+passing-serves TF = refl
+passing-serves FT = refl
+passing-serves FF = refl
 
 -- no record of a restricted cell is above the level
 pub restricted-need : (c v : ℕ) (p : Permission) → c ≤ 15 → has (restrict c v) p ≡ true → need p ≤ v

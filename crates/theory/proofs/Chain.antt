@@ -9,7 +9,7 @@ use lib.Dec.{eqb, leb}
 use borrow.Author.Tests.{eqb-true, eqb-false, eq-eqb, ne-eqb, not-true, leb-true, leb-false, le-leb, lt-leb}
 use Rattle.rights.specs.declared.Header.{Header}
 use Rattle.rights.specs.Below.{anyBelow}
-use Rattle.rights.specs.Permission.{Permission, TT, TF, need, passing, entitles}
+use Rattle.rights.specs.Permission.{Permission, TT, TF, need, passing, entitles, serves}
 use Rattle.rights.specs.Cell.{carries, restrict}
 use Rattle.rights.specs.Register.{cell, soaOf}
 use Rattle.rights.specs.Chain.{RootedChain, alone, link, Holds, HoldsWithout, HoldsUnused, names, uses}
@@ -17,7 +17,7 @@ use Rattle.rights.specs.Level.{levels, independentLevels, levelsAmong, levelIn,
 use Rattle.rights.specs.Restriction.{restricted, emptyWhere}
 use Rattle.theory.proofs.Tests.{both, left-of, right-of, or-left, or-right, either, decided, clash, neither, not-left, not-right}
 use Rattle.theory.proofs.Below.{any-from, any-found}
-use Rattle.theory.proofs.Cell.{entitles-trans, entitled-serves, carries-serves, passing-entitles, passing-itself, need-low, need-high, carries-restrict}
+use Rattle.theory.proofs.Cell.{entitles-trans, entitles-serves, entitled-serves, carries-serves, passing-entitles, passing-itself, need-low, need-high, carries-restrict}
 use Rattle.theory.proofs.Register.{cell-register}
 use Rattle.theory.proofs.Way.{Way, start, onward, Reach, linkOf, way-root, way-allowed}
 use Rattle.theory.proofs.Level.{enough-way, way-enough, level-most}
@@ -171,6 +171,16 @@ module _ (h : Header) (R : List ℕ) (inside : soaOf h < h .n) where
   pub level-1 : (y : ℕ) → (1 ≤ levelIn (levels h R) y) ↔ Holds h R TF y
   unfolding need passing
   level-1 y = level-holds TF y
+
+-- who holds a permission holds whatever it serves for
+chain-serves :
+    {h : Header} {R : List ℕ} {offices : List ℕ} {y : ℕ} {q : Permission} (p : Permission) →
+    serves q p ≡ true → RootedChain h R offices y q → RootedChain h R offices y p
+chain-serves p s (alone q) = alone p
+chain-serves p s (link {reading = r} y q chain l c e) = link y p chain l (carries-serves _ q p c s) (entitles-serves r q p e s)
+
+pub holds-serves : (h : Header) (R : List ℕ) (q p : Permission) (y : ℕ) → serves q p ≡ true → Holds h R q y → Holds h R p y
+holds-serves h R q p y s held = record { offices = held .offices; chain = chain-serves p s (held .chain) }
 
 -- The last office of a chain is the one that it is for.
 record EndsAt (offices : List ℕ) (y : ℕ) : Type 0 where

@@ -22,6 +22,7 @@ pub mod Sweep
 pub mod Standing
 pub mod Cut
 pub mod Local
+pub mod Others
 pub mod LocalDeletion
 pub mod Granting
 pub mod Rest

@@ -78,20 +78,20 @@ module _ (h : Header) (R : List ℕ) (i j : ℕ) (to : ℕ → ℕ → ℕ) (cut
       (λ ne. cell-M j y revoked hy ne)
       (same-or-not y j)
 
-  cell-L : (x y : ℕ) → x < h .n → y < h .n → (x ≡ j → ⊥) → cell h L x y ≡ cell h M x y
+  pub cell-L : (x y : ℕ) → x < h .n → y < h .n → (x ≡ j → ⊥) → cell h L x y ≡ cell h M x y
   unfolding L rowTo
   cell-L x y hx hy ne = restricted-cell h M (rowTo j v) x y hx hy ∙ kept (cell h M x y) (rowTo j v x y) (rw (ne-eqb x j ne))
 
-  row-L : (y : ℕ) → y < h .n → cell h L j y ≡ restrict (cell h R j y) v
+  pub row-L : (y : ℕ) → y < h .n → cell h L j y ≡ restrict (cell h R j y) v
   unfolding L rowTo
   row-L y hy = restricted-cell h M (rowTo j v) j y revoked hy ∙ rw (eq-eqb j j refl, row-M y hy)
 
   -- only row i is handed anything, and nothing to i itself
-  cell-N : (x y : ℕ) → x < h .n → y < h .n → eqb x i && not (eqb y i) ≡ false → cell h N x y ≡ cell h L x y
+  pub cell-N : (x y : ℕ) → x < h .n → y < h .n → eqb x i && not (eqb y i) ≡ false → cell h N x y ≡ cell h L x y
   unfolding N handedOver handedCell
   cell-N x y hx hy e = cell-register h (handedCell h R L i j) x y hx hy ∙ rw e
 
-  row-N : (y : ℕ) → y < h .n → (y ≡ i → ⊥) → cell h N i y ≡ union (cell h L i y) (without (cell h R j y) (cell h L j y))
+  pub row-N : (y : ℕ) → y < h .n → (y ≡ i → ⊥) → cell h N i y ≡ union (cell h L i y) (without (cell h R j y) (cell h L j y))
   unfolding N handedOver handedCell
   row-N y hy ne = cell-register h (handedCell h R L i j) i y revoker hy ∙ rw (eq-eqb i i refl, ne-eqb y i ne)
 
@@ -108,11 +108,11 @@ module _ (h : Header) (R : List ℕ) (i j : ℕ) (to : ℕ → ℕ → ℕ) (cut
       (λ (t : eqb x i && not (eqb y i) ≡ false). rw (cell-N x y hx hy t) e)
       (decided (eqb x i && not (eqb y i)))
 
-  carries-N : (x y : ℕ) → x < h .n → y < h .n → (p : Permission) → carries (cell h L x y) p ≡ true → carries (cell h N x y) p ≡ true
+  pub carries-N : (x y : ℕ) → x < h .n → y < h .n → (p : Permission) → carries (cell h L x y) p ≡ true → carries (cell h N x y) p ≡ true
   carries-N x y hx hy p = carries-more (cell h L x y) (cell h N x y) p (has-N x y hx hy)
 
   -- what j loses to k is handed to i
-  handed : (y : ℕ) → y < h .n → (y ≡ i → ⊥) → (p : Permission) → has (cell h R j y) p ≡ true → v < need p → has (cell h N i y) p ≡ true
+  pub handed : (y : ℕ) → y < h .n → (y ≡ i → ⊥) → (p : Permission) → has (cell h R j y) p ≡ true → v < need p → has (cell h N i y) p ≡ true
   unfolding union without
   handed y hy ne p e l =
       rw (row-N y hy ne, row-L y hy)
@@ -122,7 +122,7 @@ module _ (h : Header) (R : List ℕ) (i j : ℕ) (to : ℕ → ℕ → ℕ) (cut
       ∙ gone-above (cell h R j y) v p (clean .small j y revoked hy) e l))
 
   -- a link between offices other than j stays
-  link-N : (p : Permission) (x y : ℕ) → x < h .n → y < h .n → (x ≡ j → ⊥) → (y ≡ j → ⊥) → linkOf h R p x y ≡ true → linkOf h N p x y ≡ true
+  pub link-N : (p : Permission) (x y : ℕ) → x < h .n → y < h .n → (x ≡ j → ⊥) → (y ≡ j → ⊥) → linkOf h R p x y ≡ true → linkOf h N p x y ≡ true
   unfolding linkOf
   link-N p x y hx hy nx ny e = carries-N x y hx hy p (rw (cell-L x y hx hy nx, cell-M x y hx hy ny) e)
 
@@ -226,7 +226,7 @@ module _ (h : Header) (R : List ℕ) (i j : ℕ) (to : ℕ → ℕ → ℕ) (cut
       lower-level v (levelIn (levels h N) j) (level-most h M everyOffice j)
       (λ p e. way-enough h N everyOffice inside p j (reach-j p e))
 
-  level-i : (p : Permission) → need p ≤ levelIn (levels h R) j → v < need p → need p ≤ levelIn (levels h N) i
+  pub level-i : (p : Permission) → need p ≤ levelIn (levels h R) j → v < need p → need p ≤ levelIn (levels h N) i
   unfolding levels
   level-i p e l = way-enough h N everyOffice inside p i (reach-i p e l)
 

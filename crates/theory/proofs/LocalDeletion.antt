@@ -1,8 +1,9 @@
--- WLD and SLD leave a sound register sound: the local lemma at their column steps. Assumes nothing.
+-- WLD and SLD leave a sound register sound, and every office but j what it held: the local lemma at their column steps.
+-- Assumes nothing.
 use Prim.Native.Nat.{ℕ, _≤_, _<_}
 use native.Mathlib.Omega.{arith}
 use mathlib.Core.Path.{_≡_, refl, ap, sym, _∙_}
-use mathlib.Core.Logic.{⊎-elim}
+use mathlib.Core.Logic.{_↔_, ⊎-elim}
 use mathlib.Core.Bool.{Bool, true, false, cond, and-false}
 use mathlib.Core.List.{List, [], _∷_, _++_}
 use lib.Dec.{eqb, leb}
@@ -13,7 +14,8 @@ use Rattle.rights.specs.Register.{soaOf}
 use Rattle.rights.specs.Level.{everyOffice, otherThan, levels, levelIn, independentLevels}
 use Rattle.rights.specs.Sound.{barred, sound}
 use Rattle.rights.specs.Restriction.{restricted, emptyWhere, isCell, columnsTo, emptied}
-use Rattle.rights.specs.Deletion.{wld, sld, columnStep}
+use Rattle.rights.specs.Deletion.{wld, sld, columnStep, rowSettled}
+use Rattle.rights.specs.Chain.{Holds}
 use Rattle.theory.proofs.Tests.{both, left-of, right-of, not-left, not-right, decided}
 use Rattle.theory.proofs.Below.{below-or-not}
 use Rattle.theory.proofs.Cell.{passing-need, need-high}
@@ -22,7 +24,8 @@ use Rattle.theory.proofs.Level.{enough-way, way-enough}
 use Rattle.theory.proofs.Restriction.{link-restricted}
 use Rattle.theory.proofs.Standing.{sound-clean, sound-fixed}
 use Rattle.theory.proofs.Cut.{except, cut, Arrival, shut-out, let-in, not-shut}
-use Rattle.theory.proofs.Local.{Cutting, settled-sound}
+use Rattle.theory.proofs.Local.{Cutting, M, v, L, N, settled-sound}
+use Rattle.theory.proofs.Others.{others-kept, nobody-gains}
 
 -- offices in range between which a grant may stand, in a sound register
 pub record Pair (h : Header) (R : List ℕ) (i j : ℕ) : Type 0 where
@@ -156,4 +159,28 @@ module _ (h : Header) (R : List ℕ) (i j : ℕ) (pair : Pair h R i j) where
   unfolding sld columnStep
   sld-sound =
       settled-sound h R i j (columnsTo (eqb j) (independentLevels h R i))
+      (cutting (columnsTo (eqb j) (independentLevels h R i)) sld-column sld-stands)
+
+  -- every other office holds after either exactly what it held, and j nothing that it did not hold
+  pub wld-others : (p : Permission) (y : ℕ) → (y ≡ j → ⊥) → Holds h (wld h R i j) p y ↔ Holds h R p y
+  unfolding wld emptied rowSettled N L M v
+  wld-others p y ny =
+      let cut = cutting (emptyWhere (isCell i j)) wld-column wld-stands in
+      (nobody-gains h R i j (emptyWhere (isCell i j)) cut p y, others-kept h R i j (emptyWhere (isCell i j)) cut p y ny)
+
+  pub wld-gains : (p : Permission) (y : ℕ) → Holds h (wld h R i j) p y → Holds h R p y
+  unfolding wld emptied rowSettled N L M v
+  wld-gains = nobody-gains h R i j (emptyWhere (isCell i j)) (cutting (emptyWhere (isCell i j)) wld-column wld-stands)
+
+  pub sld-others : (p : Permission) (y : ℕ) → (y ≡ j → ⊥) → Holds h (sld h R i j) p y ↔ Holds h R p y
+  unfolding sld columnStep rowSettled N L M v
+  sld-others p y ny =
+      let own = columnsTo (eqb j) (independentLevels h R i) in
+      let cut = cutting own sld-column sld-stands in
+      (nobody-gains h R i j own cut p y, others-kept h R i j own cut p y ny)
+
+  pub sld-gains : (p : Permission) (y : ℕ) → Holds h (sld h R i j) p y → Holds h R p y
+  unfolding sld columnStep rowSettled N L M v
+  sld-gains =
+      nobody-gains h R i j (columnsTo (eqb j) (independentLevels h R i))
       (cutting (columnsTo (eqb j) (independentLevels h R i)) sld-column sld-stands)

@@ -1,8 +1,8 @@
--- Law 4: every command leaves a register as 01 has it; what an accepted one has passed, and what a refused one leaves.
--- Assumes nothing.
+-- Law 4: every command leaves a register as 01 has it; what an accepted one has passed, and what a refused one leaves; whom a local
+-- deletion leaves alone. Assumes nothing.
 use Prim.Native.Nat.{ℕ, _*_, _≤_, _<_}
 use mathlib.Core.Path.{_≡_, sym, _∙_}
-use mathlib.Core.Logic.{⊎-elim}
+use mathlib.Core.Logic.{_⊎_, _↔_, ⊎-elim}
 use mathlib.Core.Bool.{Bool, true, false, not, cond}
 use mathlib.Core.List.{List}
 use lib.ListN.{length}
@@ -10,10 +10,11 @@ use lib.Dec.{eqb}
 use borrow.Author.Tests.{eqb-true, eq-eqb, leb-true}
 use Rattle.rights.specs.declared.Header.{Header}
 use Rattle.rights.specs.declared.Command.{Command}
-use Rattle.rights.specs.Permission.{decoded, need}
+use Rattle.rights.specs.Permission.{Permission, decoded, need}
 use Rattle.rights.specs.Cell.{has}
 use Rattle.rights.specs.Register.{cell, soaOf}
 use Rattle.rights.specs.Level.{levels, levelIn}
+use Rattle.rights.specs.Chain.{Holds}
 use Rattle.rights.specs.Sound.{headed, whole, sound, unless}
 use Rattle.rights.specs.Restriction.{restricted, emptyWhere, isCell, rowTo, emptied}
 use Rattle.rights.specs.Deletion.{grantedCell, granted, handedCell, handedOver, rowSettled, columnStep, wld, wgd, sld, sgd}
@@ -25,7 +26,7 @@ use Rattle.theory.proofs.Refusals.{none-of, holds-unless, Passed, comma
 use Rattle.theory.proofs.Sound.{may-grant}
 use Rattle.theory.proofs.Sweep.{length-sweep}
 use Rattle.theory.proofs.Standing.{Clean, sound-clean, swept-sound, restricted-clean}
-use Rattle.theory.proofs.LocalDeletion.{Pair, wld-sound, sld-sound}
+use Rattle.theory.proofs.LocalDeletion.{Pair, wld-sound, sld-sound, wld-others, sld-others}
 use Rattle.theory.proofs.Granting.{grant-sound}
 use Rattle.theory.proofs.Rest.{sgd-sound, length-sgd}
 
@@ -112,3 +113,21 @@ outcome-ready h R ready c =
     (record { headed = ready .headed; whole = eq-eqb (length (carriedOut h R c)) (h .n * h .n) (left .0); sound = left .1 }))
     (λ (e : eqb (refusal h R c) 0 ≡ false). rw (outcome-refused h R c e) ready)
     (decided (eqb (refusal h R c) 0))
+
+-- a local deletion, accepted or refused, leaves every office but the one that it names as subject with exactly what it held
+module _ (h : Header) (R : List ℕ) (ready : Ready h R) (c : Command) (local : (c .act ≡ 1) ⊎ (c .act ≡ 3)) where
+  local-others :
+      refusal h R c ≡ 0 → (p : Permission) (y : ℕ) → (y ≡ toOf c → ⊥) → Holds h (carriedOut h R c) p y ↔ Holds h R p y
+  unfolding carriedOut isGrant
+  local-others none p y ne =
+      ⊎-elim
+      (λ (e : c .act ≡ 1). rw e (wld-others h R (byOf c) (toOf c) (pair h R ready c none) p y ne))
+      (λ (e : c .act ≡ 3). rw e (sld-others h R (byOf c) (toOf c) (pair h R ready c none) p y ne))
+      local
+
+  pub local-command-others : (p : Permission) (y : ℕ) → (y ≡ toOf c → ⊥) → Holds h (outcome h R c .cells) p y ↔ Holds h R p y
+  local-command-others p y ne =
+      ⊎-elim
+      (λ (e : eqb (refusal h R c) 0 ≡ true). rw (outcome-done h R c e) (local-others (eqb-true (refusal h R c) 0 e) p y ne))
+      (λ (e : eqb (refusal h R c) 0 ≡ false). rw (outcome-refused h R c e) ((λ held. held), (λ held. held)))
+      (decided (eqb (refusal h R c) 0))

@@ -10,7 +10,7 @@ import sys
 
 ROOT = pathlib.Path(__file__).resolve().parent.parent
 PICTURE = ROOT / "docs" / "crates.svg"
-WIDTH, HEIGHT, GAP_X, GAP_Y, MARGIN = 92, 30, 22, 44, 20
+WIDTH, HEIGHT, GAP_X, GAP_Y, MARGIN, BEND = 116, 30, 14, 44, 20, 2
 
 
 def cited_by_crate():
@@ -37,30 +37,74 @@ def arrows(cited):
         yield from ((name, dep) for dep in deps if dep not in through)
 
 
-def levels(cited):
-    """crates by height, each near the middle of what it cites"""
+def routes(cited):
+    """each arrow as the stops that it makes, one on each level from a crate down to what it cites; between the two it passes bends"""
+    for name, dep in arrows(cited):
+        at, end = height(cited, name), height(cited, dep)
+        yield [name, *((name, dep, level) for level in range(at - 1, end, -1)), dep]
+
+
+def level_of(cited, stop):
+    return height(cited, stop) if isinstance(stop, str) else stop[2]
+
+
+def rows_of(cited, lines):
+    """the stops of each level from the lowest up, in an order in which each is near the middle of those that it is joined to"""
     rows = {}
-    for name in cited:
-        rows.setdefault(height(cited, name), []).append(name)
-    place = {}
-    for at in sorted(rows):
-        middle = {name: sum(place[dep] for dep in cited[name]) / max(1, len(cited[name])) for name in rows[at]}
-        rows[at].sort(key=lambda name: middle[name])
-        place.update({name: k - (len(rows[at]) - 1) / 2 for k, name in enumerate(rows[at])})
-    return rows
+    for stop in dict.fromkeys([*cited, *(stop for line in lines for stop in line)]):
+        rows.setdefault(level_of(cited, stop), []).append(stop)
+    joined = {stop: [] for row in rows.values() for stop in row}
+    for line in lines:
+        for upper, lower in zip(line, line[1:]):
+            joined[upper].append(lower)
+            joined[lower].append(upper)
+    for sweep in range(24):
+        for at in sorted(rows, reverse=sweep % 2 == 1):
+            place = {stop: k / len(row) for row in rows.values() for k, stop in enumerate(row)}
+            rows[at].sort(key=lambda stop: sum(map(place.get, joined[stop])) / len(joined[stop]) if joined[stop] else place[stop])
+    return [rows[at] for at in sorted(rows)], joined
+
+
+def breadth(stop):
+    return WIDTH if isinstance(stop, str) else BEND
+
+
+def spread(row, wish):
+    """the middle of each stop of a row, as near to its wish as the order and the gaps allow"""
+    middle = {}
+    edge = 0
+    for stop in row:
+        middle[stop] = max(wish[stop], edge + breadth(stop) / 2)
+        edge = middle[stop] + breadth(stop) / 2 + GAP_X
+    edge = max(edge - GAP_X, max(wish[stop] + breadth(stop) / 2 for stop in row))
+    for stop in reversed(row):
+        middle[stop] = min(middle[stop], max(wish[stop], 0) + BEND, edge - breadth(stop) / 2)
+        edge = middle[stop] - breadth(stop) / 2 - GAP_X
+    return middle
+
+
+def middles(rows, joined):
+    """where each stop stands from left to right: several times over, each is drawn towards what it is joined to"""
+    widest = max(sum(breadth(stop) + GAP_X for stop in row) for row in rows)
+    middle = {}
+    for row in rows:
+        step = widest / len(row)
+        middle.update(spread(row, {stop: (k + 0.5) * step for k, stop in enumerate(row)}))
+    for sweep in range(12):
+        for row in rows if sweep % 2 else rows[::-1]:
+            wish = {stop: sum(map(middle.get, joined[stop])) / len(joined[stop]) if joined[stop] else middle[stop] for stop in row}
+            middle.update(spread(row, wish))
+    left = min(middle[stop] - breadth(stop) / 2 for stop in middle)
+    return {stop: round(MARGIN + middle[stop] - left) for stop in middle}
 
 
 def drawn(cited):
-    rows = levels(cited)
-    widest = max(len(row) for row in rows.values())
-    width = 2 * MARGIN + widest * (WIDTH + GAP_X) - GAP_X + (WIDTH + GAP_X) // 2
+    lines = list(routes(cited))
+    rows, joined = rows_of(cited, lines)
+    middle = middles(rows, joined)
     tall = 2 * MARGIN + len(rows) * (HEIGHT + GAP_Y) - GAP_Y
-    corner = {}
-    for at, row in rows.items():
-        # rows are set off by half a step, so that an arrow straight down passes between the boxes of the next row
-        left = MARGIN + ((widest - len(row)) // 2 + at % 2 / 2) * (WIDTH + GAP_X)
-        for k, name in enumerate(row):
-            corner[name] = (left + k * (WIDTH + GAP_X), tall - MARGIN - HEIGHT - at * (HEIGHT + GAP_Y))
+    top = {stop: tall - MARGIN - HEIGHT - at * (HEIGHT + GAP_Y) for at, row in enumerate(rows) for stop in row}
+    width = max(middle[stop] + breadth(stop) // 2 for stop in middle) + MARGIN
     out = [
         f'<svg xmlns="http://www.w3.org/2000/svg" width="{width}" height="{tall}" font-family="sans-serif" font-size="13">',
         "<title>The crates: each stands above all that it cites</title>",
@@ -68,12 +112,16 @@ def drawn(cited):
         '<path d="M0,0 L8,4 L0,8 z" fill="#555"/></marker></defs>',
         f'<rect width="{width}" height="{tall}" fill="white"/>',
     ]
-    for name, dep in arrows(cited):
-        (x, y), (u, v) = corner[name], corner[dep]
-        out.append(f'<line x1="{x + WIDTH / 2}" y1="{y + HEIGHT}" x2="{u + WIDTH / 2}" y2="{v}" stroke="#555" marker-end="url(#tip)"/>')
-    for name, (x, y) in corner.items():
+    for name, *bends, dep in lines:
+        points = [(middle[name], top[name] + HEIGHT)]
+        points += [(middle[bend], top[bend] + down) for bend in bends for down in (0, HEIGHT)]
+        points.append((middle[dep], top[dep]))
+        path = " ".join(f"{x},{y}" for x, y in points)
+        out.append(f'<polyline points="{path}" fill="none" stroke="#555" marker-end="url(#tip)"/>')
+    for name in cited:
+        x, y = middle[name] - WIDTH // 2, top[name]
         out.append(f'<rect x="{x}" y="{y}" width="{WIDTH}" height="{HEIGHT}" rx="4" fill="#eef3f8" stroke="#345"/>')
-        out.append(f'<text x="{x + WIDTH / 2}" y="{y + 20}" text-anchor="middle">{name}</text>')
+        out.append(f'<text x="{middle[name]}" y="{y + 20}" text-anchor="middle">{name}</text>')
     return "\n".join([*out, "</svg>", ""])
 
 

@@ -343,22 +343,18 @@ passing-entitles TF = refl
 passing-entitles FT = refl
 passing-entitles FF = refl
 
--- a record that serves where what passes p on is read needs no less than p
-pub serves-need : (r p : Permission) → serves r (passing p) ≡ true → need p ≤ need r
-unfolding eachPermission serves stronger code passing need
-serves-need r p e =
-    leb-true (need p) (need r)
-    (right-of (serves r (passing p)) (leb (need p) (need r))
-    (sym (by-pairs (λ r p. serves r (passing p)) (λ r p. serves r (passing p) && leb (need p) (need r)) refl r p) ∙ e))
-
--- nor does a record that serves where p is read
+-- a record that serves where p is read needs no less than p
 pub serves-least : (r p : Permission) → serves r p ≡ true → need p ≤ need r
 unfolding eachPermission serves stronger code need
 serves-least r p e =
     leb-true (need p) (need r)
     (right-of (serves r p) (leb (need p) (need r)) (sym (by-pairs (λ r p. serves r p) (λ r p. serves r p && leb (need p) (need r)) refl r p) ∙ e))
 
--- and what passes p on serves where p is read
+-- nor does one that serves where what passes p on is read need less, which is of p's need
+pub serves-need : (r p : Permission) → serves r (passing p) ≡ true → need p ≤ need r
+serves-need r p e = omega (arith, serves-least r (passing p) e, passing-need p)
+
+-- what passes p on serves where p is read
 pub passing-serves : (p : Permission) → serves (passing p) p ≡ true
 unfolding passing serves stronger code
 passing-serves TT = refl

@@ -161,26 +161,24 @@ module _ (h : Header) (R : List ℕ) (i j : ℕ) (pair : Pair h R i j) where
       settled-sound h R i j (columnsTo (eqb j) (independentLevels h R i))
       (cutting (columnsTo (eqb j) (independentLevels h R i)) sld-column sld-stands)
 
-  -- every other office holds after either exactly what it held, and j nothing that it did not hold
-  pub wld-others : (p : Permission) (y : ℕ) → (y ≡ j → ⊥) → Holds h (wld h R i j) p y ↔ Holds h R p y
-  unfolding wld emptied rowSettled N L M v
-  wld-others p y ny =
-      let cut = cutting (emptyWhere (isCell i j)) wld-column wld-stands in
-      (nobody-gains h R i j (emptyWhere (isCell i j)) cut p y, others-kept h R i j (emptyWhere (isCell i j)) cut p y ny)
-
+  -- nobody holds after either what it did not hold, and every office but j holds exactly what it held
   pub wld-gains : (p : Permission) (y : ℕ) → Holds h (wld h R i j) p y → Holds h R p y
   unfolding wld emptied rowSettled N L M v
   wld-gains = nobody-gains h R i j (emptyWhere (isCell i j)) (cutting (emptyWhere (isCell i j)) wld-column wld-stands)
 
-  pub sld-others : (p : Permission) (y : ℕ) → (y ≡ j → ⊥) → Holds h (sld h R i j) p y ↔ Holds h R p y
-  unfolding sld columnStep rowSettled N L M v
-  sld-others p y ny =
-      let own = columnsTo (eqb j) (independentLevels h R i) in
-      let cut = cutting own sld-column sld-stands in
-      (nobody-gains h R i j own cut p y, others-kept h R i j own cut p y ny)
+  pub wld-others : (p : Permission) (y : ℕ) → (y ≡ j → ⊥) → Holds h (wld h R i j) p y ↔ Holds h R p y
+  unfolding wld emptied rowSettled N L M v
+  wld-others p y ny =
+      (wld-gains p y, others-kept h R i j (emptyWhere (isCell i j)) (cutting (emptyWhere (isCell i j)) wld-column wld-stands) p y ny)
 
   pub sld-gains : (p : Permission) (y : ℕ) → Holds h (sld h R i j) p y → Holds h R p y
   unfolding sld columnStep rowSettled N L M v
   sld-gains =
       nobody-gains h R i j (columnsTo (eqb j) (independentLevels h R i))
       (cutting (columnsTo (eqb j) (independentLevels h R i)) sld-column sld-stands)
+
+  pub sld-others : (p : Permission) (y : ℕ) → (y ≡ j → ⊥) → Holds h (sld h R i j) p y ↔ Holds h R p y
+  unfolding sld columnStep rowSettled N L M v
+  sld-others p y ny =
+      let own = columnsTo (eqb j) (independentLevels h R i) in
+      (sld-gains p y, others-kept h R i j own (cutting own sld-column sld-stands) p y ny)

@@ -1,4 +1,4 @@
--- `local::copied` meets its contract. The loop's invariant: the bytes passed, and zeros after them. Assumes nothing.
+-- `buffers::copied` meets its contract. The loop's invariant: the bytes passed, and zeros after them. Assumes nothing.
 use Prim.Native.Nat.{_≤_, _<_, _-_, min}
 use native.Mathlib.Omega.{arith}
 use mathlib.Core.Path.{_≡_, refl, ap, _∙_}

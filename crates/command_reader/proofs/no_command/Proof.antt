@@ -1,4 +1,4 @@
--- `register_reader::no_command` meets its contract: zeros. Assumes nothing.
+-- `command_reader::no_command` meets its contract: zeros. Assumes nothing.
 use mathlib.Core.Path.{refl}
 use Rattle.wording.specs.CommandReader.{noCommand}
 use Rattle.command_reader.specs.CommandTold.{commandRefused}

@@ -1,4 +1,4 @@
--- `register_reader::read_command` meets its contract: what has been read so far, line by line. Assumes nothing.
+-- `command_reader::read_command` meets its contract: what has been read so far, line by line. Assumes nothing.
 use native.Mathlib.Omega.{arith}
 use mathlib.Core.Path.{sym, _∙_}
 use mathlib.Core.List.{[], _∷_}

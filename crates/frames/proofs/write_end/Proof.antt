@@ -1,4 +1,4 @@
--- `row_writer::write_end` meets its contract. Assumes nothing.
+-- `frames::write_end` meets its contract. Assumes nothing.
 use borrow.Author.Needs.{needs}
 use Rattle.wording.specs.Word.{endText}
 use Rattle.wording.specs.Writer.{endWritten}

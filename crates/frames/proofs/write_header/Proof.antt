@@ -1,4 +1,4 @@
--- `row_writer::write_header` meets its contract. Assumes nothing.
+-- `frames::write_header` meets its contract. Assumes nothing.
 use native.Mathlib.Omega.{arith}
 use mathlib.Core.List.{_++_, append-nil}
 use mathlib.Core.Path.{_≡_, sym, _∙_}

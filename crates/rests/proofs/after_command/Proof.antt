@@ -1,4 +1,4 @@
--- `register_reader::after_command` meets its contract: the rest starts where the command ends. Assumes nothing.
+-- `rests::after_command` meets its contract: the rest starts where the command ends. Assumes nothing.
 use borrow.Author.Needs.{needs}
 use Rattle.rests.proofs.Rest.{command-rest-told}
 use Rattle.rests.proofs.after_command.Statement.{statement}

@@ -1,4 +1,4 @@
--- `register_reader::after_register` meets its contract: the rest starts where the register ends. Assumes nothing.
+-- `rests::after_register` meets its contract: the rest starts where the register ends. Assumes nothing.
 use borrow.Author.Needs.{needs}
 use Rattle.rests.proofs.Rest.{register-rest-told}
 use Rattle.rests.proofs.after_register.Statement.{statement}

@@ -1,4 +1,4 @@
--- `register_reader::rest_from` meets its contract: a part that starts in the text, or at its end. Assumes nothing.
+-- `rests::rest_from` meets its contract: a part that starts in the text, or at its end. Assumes nothing.
 use native.Mathlib.Omega.{arith}
 use mathlib.Core.Path.{refl}
 use borrow.Author.Needs.{needs}

@@ -1,4 +1,4 @@
--- `local::sweep` meets its contract. Assumes nothing.
+-- `sweeping::sweep` meets its contract. Assumes nothing.
 use borrow.Author.Needs.{needs}
 use Rattle.sweeping.proofs.Swept.{sweep-made}
 use Rattle.sweeping.proofs.sweep.Statement.{statement}

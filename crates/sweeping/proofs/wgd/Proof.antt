@@ -1,4 +1,4 @@
--- `local::wgd` meets its contract. Assumes nothing.
+-- `sweeping::wgd` meets its contract. Assumes nothing.
 use borrow.Author.Needs.{needs}
 use Rattle.sweeping.proofs.Swept.{wgd-made}
 use Rattle.sweeping.proofs.wgd.Statement.{statement}

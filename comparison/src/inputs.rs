@@ -72,12 +72,23 @@ fn command_of(random: &mut Random, n: u16, length: usize) -> Command {
     }
 }
 
+/// The text of a register of 20 offices that leaves room for seven commands of 42 bytes, so that
+/// none has to be longer than 48.
+fn register_within(random: &mut Random, length: usize) -> Vec<u8> {
+    loop {
+        let mut map = maps::sound(random, 20);
+        map.header.layer = Layer(12_345);
+        let text = texts::register(&map);
+        if text.len() + 7 * 42 <= length {
+            return text;
+        }
+    }
+}
+
 /// An input of the form that has so many bytes. Most of its commands are for the register's own
 /// layer and offices.
 fn of_length(random: &mut Random, length: usize) -> Vec<u8> {
-    let mut map = maps::sound(random, 20);
-    map.header.layer = Layer(12_345);
-    let mut input = texts::register(&map);
+    let mut input = register_within(random, length);
     let commands = (length - input.len()) / 42;
     for left in (1..=commands).rev() {
         let size = (length - input.len()) / left;

@@ -36,7 +36,7 @@ chain_way {R} p (link {i} {reading} j q chain l c r) e =
 
 -- and such a way is a chain for what passes p on
 pub way_chain :
-    {h : Header} {R : List ℕ} {allowed : ℕ → Bool} {offices : List ℕ} {y : ℕ} (p : Permission) →
+    {h : Header} {R : List ℕ} {allowed : ℕ → Bool} (p : Permission) {offices : List ℕ} {y : ℕ} →
     Way h allowed (link_of h R (passing p)) offices y →
     RootedChain h R offices y (passing p)
 unfolding link_of
@@ -59,7 +59,7 @@ differs_other i y e = rw (ne_eqb y i (λ q. eqb-false i y e (sym q)))
 
 -- a way among offices other than i is a way that does not name i
 pub way_unnamed :
-    {h : Header} {passes : ℕ → ℕ → Bool} {offices : List ℕ} {y : ℕ} (i : ℕ) →
+    {h : Header} {passes : ℕ → ℕ → Bool} (i : ℕ) {offices : List ℕ} {y : ℕ} →
     Way h (other_than i) passes offices y →
     names i offices ≡ false
 unfolding names

@@ -36,12 +36,12 @@ module _ (input buffer : List ℕ) (r : RegisterRead) (cells : List ℕ) (told :
         let read = register_read-sound input buffer read_well in
         rw (all, told.answer, told.buffer)
         (ready_register (register_read input buffer).header _
-        (record { headed = read.headed-read; whole = read.whole-read; sound = read.sound-read }))
+        (record { headed = read.headed_read; whole = read.whole_read; sound = read.sound_read }))
 
     pub few-cells : r.header.n * r.header.n ≤ 16384
     unfolding register_answer
     few-cells =
-        let small = headed_high (register_read input buffer).header (register_read-sound input buffer read_well).headed-read in
+        let small = headed_high (register_read input buffer).header (register_read-sound input buffer read_well).headed_read in
         rw told.answer (mul-le-mul small small)
 
     module _ (rest : List ℕ) (left : rest ≡ drop r.next input) where

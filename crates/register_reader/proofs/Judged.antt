@@ -121,7 +121,7 @@ module _ (text buffer : List ℕ) (h : Header) (at : ℕ) where
       let a = all_read told in
       let none : content_refusal (record { header = h; records = a.records }) (length buffer) ≡ 0 = a.refusal_is ∙ zero in
       rw (a.was, eq-eqb _ 0 none)
-      record { answer = ap (done h) a.next-is; buffer = a.done-is (accepted (record { header = h; records = a.records }) (length buffer) none).room-ok }
+      record { answer = ap (done h) a.next_is; buffer = a.done_is (accepted (record { header = h; records = a.records }) (length buffer) none).room_ok }
 
   -- something is
   pub judged-not :

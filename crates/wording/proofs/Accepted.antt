@@ -51,7 +51,7 @@ accepted t size e =
 pub not-refused : (t : Content) (size : ℕ) → Accepted t size → content_refusal t size ≡ 0
 unfolding content_refusal read_refusal first_of unless
 not-refused t size a =
-    rw (a.headed-ok, le-leb (t.header.n * t.header.n) size a.room-ok, a.inside-ok, a.allowed-ok, a.sound-ok)
+    rw (a.headed_ok, le-leb (t.header.n * t.header.n) size a.room_ok, a.inside_ok, a.allowed_ok, a.sound_ok)
 
 -- records none of which is outside are between offices below n
 pub inside : {m lo hi : ℕ} {rs : List Record} (h : Header) → any_record (outside h) rs ≡ false → Ascending m lo hi rs → Ascending h.n lo hi rs
@@ -72,7 +72,7 @@ none-outside : {lo hi : ℕ} {rs : List Record} (h : Header) → Ascending h.n l
 unfolding any_record outside
 none-outside h (none f) = refl
 none-outside h (more {r} {rs} p f a) =
-    rw (lt-ltb r.by h.n p.by-below, lt-ltb r.to h.n p.to_below) (none-outside h a)
+    rw (lt-ltb r.by h.n p.by_below, lt-ltb r.to h.n p.to_below) (none-outside h a)
 
 -- records between offices below n are between offices below a larger number
 pub wider : {n lo hi : ℕ} {rs : List Record} (m : ℕ) → n ≤ m → Ascending n lo hi rs → Ascending m lo hi rs
@@ -91,7 +91,7 @@ unfolding any_record forbidden stands
 none-forbidden h (none f) free = refl
 none-forbidden h (more {r} {rs} p f a) free =
     let stood = ap (stands (r ∷ rs) r.by r.to) (code-decoded r.perm p.coded) ∙ stands_first r rs in
-    rw (free r.by r.to (decoded r.perm) p.by-below p.to_below stood)
+    rw (free r.by r.to (decoded r.perm) p.by_below p.to_below stood)
     (none-forbidden h a (λ i j q hi hj e. free i j q hi hj (rw (e, or-true))))
 
 -- no record stands where no grant may

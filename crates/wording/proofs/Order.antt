@@ -126,7 +126,7 @@ Same n rs ss = (i j : ℕ) (q : Permission) → i < n → j < n → stands rs i 
 
 at_proper : {n : ℕ} (r : Record) (rs ss : List Record) → Proper n r → Same n rs ss → stands rs r.by r.to r.perm ≡ stands ss r.by r.to r.perm
 at_proper r rs ss p same =
-    rw (code-decoded r.perm p.coded) at (same r.by r.to (decoded r.perm) p.by-below p.to_below)
+    rw (code-decoded r.perm p.coded) at (same r.by r.to (decoded r.perm) p.by_below p.to_below)
 
 -- an ascending list of records is fixed by what stands in it
 pub same_list : {n lo hi hi' : ℕ} {rs ss : List Record} → Ascending n lo hi rs → Ascending n lo hi' ss → Same n rs ss → rs ≡ ss

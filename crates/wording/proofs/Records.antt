@@ -32,7 +32,7 @@ before_first = omega arith
 pub before_next : (r : Record) → Proper 65536 r → Before r
 before_next r p =
     let c = is_code-small r.perm p.coded in
-    let b = p.by-below in
+    let b = p.by_below in
     let t = p.to_below in
     record { by-small = omega arith; to-small = omega arith; perm-small = omega arith }
 
@@ -153,7 +153,7 @@ pub record_written :
 unfolding record_from record_text with_by with_to with_perm fits form
 record_written last r rest f p above =
     let c = is_code-small r.perm p.coded in
-    let bs = p.by-below in
+    let bs = p.by_below in
     let ts = p.to_below in
     let m = rank_may last r.by r.to r.perm f (omega arith) c.low above in
     let behind-to = line_text perm_line r.perm ++ rest in

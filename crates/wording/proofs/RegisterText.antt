@@ -66,10 +66,10 @@ register_read-written text buffer e = go (ended text buffer)
     go : Ended text buffer → register_text (register_read text buffer).header (cells_of (register_read text buffer)) ++ (register_read text buffer).rest ≡ text
     go (done t rest q zero-refusal s) =
         let a = accepted t (length buffer) zero-refusal in
-        let small = headed_high t.header a.headed-ok in
+        let small = headed_high t.header a.headed_ok in
         let narrow : t.header.n ≤ 65536 = omega arith in
         let c = content_read text t rest q in
-        let same = all_filled t.header narrow (inside t.header a.inside-ok c.ascending) in
+        let same = all_filled t.header narrow (inside t.header a.inside_ok c.ascending) in
         rw (s, cells-done text buffer t rest, register_text_lem t.header (filled t.header t.records), same) c.written
     go (refused number at some s) = absurd (some (not_zero text buffer number at s e))
 
@@ -89,9 +89,9 @@ register_read-sound text buffer e = go (ended text buffer)
         let cells = cells-done text buffer t rest in
         rw s
         record {
-          headed_read = a.headed-ok;
+          headed_read = a.headed_ok;
           whole_read = rw cells (eq-eqb _ _ (length-filled t.header t.records));
-          sound_read = rw cells a.sound-ok;
+          sound_read = rw cells a.sound_ok;
         }
     go (refused number at some s) = absurd (some (not_zero text buffer number at s e))
 

@@ -1,4 +1,6 @@
 // The lines that the program writes besides a register: what a command answered, and the refusal of an input.
+#![tactic(auto)]
+
 ghost use Rattle.printing.specs.Told.{Told};
 ghost use Rattle.answers.specs.Answers.{answer_written, refused_written};
 

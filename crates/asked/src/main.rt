@@ -1,5 +1,7 @@
 // Puts holding questions to small registers, and writes each answer, the number of offices and the whole chain buffer.
 // The questions are case 8 of document 01, chains that are easy to pick wrongly, and one question for each refusal.
+#![tactic(auto)]
+
 use libc::STDOUT_FILENO;
 use rights::{Header, Layer, Office};
 

@@ -1,4 +1,6 @@
 // The bytes of a register as a whole: copied, and cleared. Each function takes any buffer.
+#![tactic(auto)]
+
 ghost use Rattle.std.specs.Prelude.{◌≡◌, min, length, replicate};
 ghost use Rattle.buffers.specs.Copy.{copy_of};
 

@@ -1,5 +1,7 @@
 // What a cell carries as a link of a chain, which level its grantor needs, and what a level leaves of it. Every function takes every
 // byte, read as in `cells`.
+#![tactic(auto)]
+
 ghost use Rattle.std.specs.Prelude.{◌≡◌, cond, ◌≤◌, eqb, leb};
 ghost use Rattle.rights.specs.Permission.{need, decoded};
 ghost use Rattle.rights.specs.Cell.{carries as cell_carries, restrict as restrict_cell};

@@ -1,6 +1,8 @@
 // A cell is a byte: 8 = TT, 4 = TF, 2 = FT, 1 = FF. Every function takes every byte, so no caller has to test one first: a cell
 // is read by these four bits alone, and a permission that is no code is read as FF, as `decoded` has it.
 // Bits are quotients and remainders by numerals, since the proofs read these and not masks.
+#![tactic(auto)]
+
 ghost use Rattle.std.specs.Prelude.{◌≡◌, ◌&&◌, ◌||◌, not, cond, ◌≤◌};
 ghost use Rattle.rights.specs.Permission.{is_code, decoded};
 ghost use Rattle.rights.specs.Cell.{has as has_record, size as cell_size, union as cell_union, without as cell_without};

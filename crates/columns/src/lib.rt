@@ -1,5 +1,7 @@
 // Columns of a register: the cells of the columns that are marked, restricted row by row. Any header and any buffer is taken:
 // where they make no register, nothing changes.
+#![tactic(auto)]
+
 ghost use Rattle.std.specs.Prelude.{◌≡◌, not, cond, ◌<◌, ◌≤◌, length, eqb};
 ghost use Rattle.rights.specs.Restriction.{restricted, columns_to};
 ghost use Rattle.rows.specs.Whole.{Whole, if_whole};

@@ -1,4 +1,6 @@
 // The reader of a command: what was read by value, and where in the text the rest starts.
+#![tactic(auto)]
+
 ghost use Rattle.std.specs.Prelude.{◌≡◌};
 ghost use Rattle.command_reader.specs.CommandTold.{command_told, command_refused};
 
@@ -8,7 +10,7 @@ use rights::{Command, Layer, Office};
 
 // What the command reader gives: 0 or 13, where the bad line starts, the command, and where the rest starts.
 #[repr(C)]
-#[derive(Drop)]
+#[derive(Clone, Copy)]
 pub struct CommandRead {
     pub answer: u8,
     pub at: usize,

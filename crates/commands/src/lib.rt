@@ -1,5 +1,7 @@
 // One command to a register: refused by the first refusal that applies, or carried out and tallied. Any register buffer, any header
 // and any command may be given.
+#![tactic(auto)]
+
 ghost use Rattle.std.specs.Prelude.{◌≡◌};
 ghost use Rattle.rights.specs.Command.{refusal as refusal_of, carried_out, outcome};
 ghost use Rattle.rows.specs.Whole.{if_whole};
@@ -10,7 +12,7 @@ use rights::{Command, Header};
 
 // What a command answers: 0 or its refusal, and the records that it removed and added.
 #[repr(C)]
-#[derive(Drop)]
+#[derive(Clone, Copy)]
 pub struct Outcome {
     pub answer: u8,
     pub removed: u32,

@@ -1,5 +1,7 @@
 // Single cells of a register: emptied, granted and handed over. Each function takes any header, any buffer and any office: where
 // the buffer is no register of the header, or there is no such cell, nothing changes.
+#![tactic(auto)]
+
 ghost use Rattle.std.specs.Prelude.{◌≡◌};
 ghost use Rattle.rights.specs.Permission.{code, decoded};
 ghost use Rattle.rights.specs.Restriction.{emptied};

@@ -1,5 +1,7 @@
 // Reads the text of map A of document 01 with one byte of it removed, doubled, raised by one or lowered by one, each byte in turn,
 // and writes what the reader answers and the whole buffer it was lent. The whole text comes first.
+#![tactic(auto)]
+
 use libc::STDOUT_FILENO;
 
 // n=5, SOA 0, layer 7; 0→1 TT, 0→3 TF, 1→2 TT, 2→4 TT, 3→2 TF: map A of document 01.
@@ -12,7 +14,7 @@ by=3\nto=2\nperm=TF\n\
 end=register\n";
 
 // What becomes of one byte.
-#[derive(Drop)]
+#[derive(Clone, Copy)]
 enum Damage {
     Removed,
     Doubled,

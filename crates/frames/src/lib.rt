@@ -1,5 +1,7 @@
 // What stands around the rows in the text of a register: its header, and the line at its end. A room that is too small is left as it
 // was.
+#![tactic(auto)]
+
 ghost use Rattle.wording.specs.Writer.{header_written, end_written};
 ghost use Rattle.printing.specs.Told.{Told};
 

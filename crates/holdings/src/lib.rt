@@ -1,5 +1,7 @@
 // Which permissions an office holds, from levels that are known, and which offices hold fewer than before.
 // Levels come as 128 bytes, one for each office there can be, as `levels` gives them.
+#![tactic(auto)]
+
 ghost use Rattle.std.specs.Prelude.{◌≡◌, ◌≤◌, ◌<◌};
 ghost use Rattle.levels.specs.Padded.{padded};
 ghost use Rattle.rights.specs.Below.{table};

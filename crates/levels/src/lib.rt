@@ -1,5 +1,7 @@
 // The level of each office: how far it may pass rights on, by chains from SOA.
 // A set of offices is an array of 128 marks, one for each office there can be, and a mark of no office is false.
+#![tactic(auto)]
+
 ghost use Rattle.std.specs.Prelude.{◌≡◌, false, cond, ◌≤◌, ◌<◌};
 ghost use Rattle.rights.specs.Below.{table};
 ghost use Rattle.rights.specs.Permission.{decoded};

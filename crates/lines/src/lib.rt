@@ -1,5 +1,7 @@
 // One line of the text: its value, and where in the text the next line starts; or that it is bad.
 // A line reader says no more of a bad line, since its caller knows where the line starts.
+#![tactic(auto)]
+
 ghost use Rattle.std.specs.Prelude.{◌≡◌, ◌-◌, ◌≤◌, length, drop};
 ghost use Rattle.wording.specs.Word.{key as key_of, acts, perms, form};
 ghost use Rattle.wording.specs.Line.{after_word, chosen, value_of};
@@ -9,14 +11,14 @@ ghost use Rattle.lines.specs.Read.{kind_of, word_read, choice_read, line_at, end
 use numbers::LineRead;
 
 // Where the text goes on behind a word, or that another word stands there.
-#[derive(Drop)]
+#[derive(Clone, Copy)]
 pub enum WordRead {
     Next(usize),
     Other,
 }
 
 // The kinds of line that have a value.
-#[derive(Drop)]
+#[derive(Clone, Copy)]
 pub enum LineKind {
     N,
     Soa,

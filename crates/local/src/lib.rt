@@ -1,5 +1,7 @@
 // The local deletions, and the column step that strong deletions share. Each function takes any header, any buffer and any office:
 // where the buffer is no register of the header, nothing changes.
+#![tactic(auto)]
+
 ghost use Rattle.std.specs.Prelude.{◌≡◌, true, ◌≤◌, length, take};
 ghost use Rattle.rights.specs.Deletion.{wld as weak_local, sld as strong_local, column_step, row_settled};
 ghost use Rattle.rights.specs.Sound.{readable};

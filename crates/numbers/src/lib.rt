@@ -1,10 +1,12 @@
 // A number in the text: read digit by digit up to LF, and how many digits it is written with.
+#![tactic(auto)]
+
 ghost use Rattle.std.specs.Prelude.{◌≡◌, true, ◌-◌, ◌≤◌, length, drop};
 ghost use Rattle.wording.specs.Line.{is_digit, goes_on, extended, number as number_in, numeral};
 ghost use Rattle.numbers.specs.Line.{line_read};
 
 // The value of a line and where the next line starts, or that it is bad (refusal 13).
-#[derive(Drop)]
+#[derive(Clone, Copy)]
 pub enum LineRead {
     Value(u16, usize),
     Bad,

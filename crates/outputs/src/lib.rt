@@ -1,5 +1,7 @@
 // What the program `regrun` writes for an input: the register is read, the commands are run one at a time, and the register is
 // written. A room that holds the longest output is asked for first, so nothing is ever cut.
+#![tactic(auto)]
+
 ghost use Rattle.std.specs.Prelude.{◌≡◌, ◌+◌, ◌*◌, ◌≤◌, ◌<◌, length, replicate, true};
 ghost use Rattle.rights.specs.Sound.{headed, register_refusal};
 ghost use Rattle.wording.specs.Word.{end_text};

@@ -1,5 +1,7 @@
 // The register for programs in C: each public function of the project's library crates that such a program calls, under a plain name
 // and with its own contract. A slice crosses as a pointer and a length, a struct by value.
+#![tactic(auto)]
+
 ghost use Rattle.std.specs.Prelude.{◌≡◌};
 ghost use Rattle.rights.specs.Command.{outcome};
 ghost use Rattle.rights.specs.Question.{answered};

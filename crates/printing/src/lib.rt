@@ -1,5 +1,7 @@
 // Numbers and lines written into a room that is lent. What is written by a public function is measured first, so that a room that
 // is too small is left as it was; the functions below those ask for the room.
+#![tactic(auto)]
+
 ghost use Rattle.std.specs.Prelude.{◌≡◌, [], ◌∷◌, ◌++◌, ◌≤◌, length};
 ghost use Rattle.wording.specs.Line.{numeral};
 ghost use Rattle.wording.specs.Writer.{written_behind};
@@ -9,7 +11,7 @@ ghost use Rattle.printing.specs.NumberLine.{number_line};
 
 // What a writer answers: 0 or the refusal, and the length of what it wrote.
 #[repr(C)]
-#[derive(Drop)]
+#[derive(Clone, Copy)]
 pub struct Written {
     pub answer: u8,
     pub size: usize,

@@ -1,5 +1,7 @@
 // The holding question: does this office hold this permission, and by which chain.
 // A set of offices is an array of 128 marks, one for each office there can be, and a mark of no office is false.
+#![tactic(auto)]
+
 ghost use Rattle.std.specs.Prelude.{◌≡◌, false, ◌+◌, ◌≤◌, ◌<◌, ◌++◌, length, drop, set as set_at};
 ghost use Rattle.rights.specs.Below.{first_below};
 ghost use Rattle.rights.specs.Permission.{decoded, passing};
@@ -12,7 +14,7 @@ use rights::{Header, Office};
 
 // What a question answers: 0 or the refusal, and of how many offices the chain is, 0 where it is refused.
 #[repr(C)]
-#[derive(Drop)]
+#[derive(Clone, Copy)]
 pub struct Held {
     pub answer: u8,
     pub offices: u8,

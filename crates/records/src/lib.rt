@@ -1,4 +1,6 @@
 // The records of a register's text, one after the other up to the end line, each added to the cells as it is read.
+#![tactic(auto)]
+
 ghost use Rattle.std.specs.Prelude.{◌≡◌, ◌||◌, ◌≤◌, length, drop};
 ghost use Rattle.wording.specs.Word.{to_line, perm_line};
 ghost use Rattle.wording.specs.Line.{line_of};
@@ -12,7 +14,7 @@ use numbers::LineRead;
 use rights::{Header, Office};
 
 // One record, as it was read: nothing of it is known to be in range.
-#[derive(Drop)]
+#[derive(Clone, Copy)]
 pub struct Record {
     pub by: Office,
     pub to: Office,
@@ -20,7 +22,7 @@ pub struct Record {
 }
 
 // A record and where the next line starts, or where the bad line starts.
-#[derive(Drop)]
+#[derive(Clone, Copy)]
 pub enum RecordRead {
     Got(Record, usize),
     BadAt(usize),
@@ -28,7 +30,7 @@ pub enum RecordRead {
 
 // All records: whether one names an office that there is not, whether one is forbidden, and where it goes on behind the end
 // line; or where the bad line starts.
-#[derive(Drop)]
+#[derive(Clone, Copy)]
 pub enum RecordsRead {
     End {
         outside: bool,

@@ -1,4 +1,6 @@
 // Which refusal of a command applies first. Any register buffer, any header and any command may be given.
+#![tactic(auto)]
+
 ghost use Rattle.std.specs.Prelude.{◌≡◌, true, ◌&&◌, ◌<◌, ltb};
 ghost use Rattle.rights.specs.Sound.{readable};
 ghost use Rattle.rights.specs.Command.{well_formed, grant_refusal, deletion_refusal, form_refusal, refusal as refusal_of};

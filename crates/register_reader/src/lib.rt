@@ -1,4 +1,6 @@
 // The reader of a register: the header by value, the cells in a lent buffer, and where in the text the rest starts.
+#![tactic(auto)]
+
 ghost use Rattle.std.specs.Prelude.{◌≡◌, ◌≤◌, length};
 ghost use Rattle.wording.specs.RegisterReader.{register_read};
 ghost use Rattle.register_reader.specs.Told.{header_in, register_not, buffer_refusal, RegisterTold, behind_header_at};
@@ -10,7 +12,7 @@ use rights::{Header, Layer, Office};
 
 // What the register reader gives: 0 or the refusal, where the bad line starts, the header, and where the rest starts.
 #[repr(C)]
-#[derive(Drop)]
+#[derive(Clone, Copy)]
 pub struct RegisterRead {
     pub answer: u8,
     pub at: usize,
@@ -19,7 +21,7 @@ pub struct RegisterRead {
 }
 
 // The header and where the records start, or where the bad line starts.
-#[derive(Drop)]
+#[derive(Clone, Copy)]
 pub enum HeaderRead {
     Got(Header, usize),
     BadAt(usize),

@@ -1,5 +1,7 @@
 // The cells of a register in its bytes, and which header and buffer are a register at all. Each function takes any header, any buffer and
 // any office.
+#![tactic(auto)]
+
 ghost use Rattle.std.specs.Prelude.{◌≡◌};
 ghost use Rattle.rights.specs.Register.{cell as cell_of};
 ghost use Rattle.rights.specs.Sound.{headed as is_headed, whole as is_whole, readable as is_readable, barred as is_barred};

@@ -1,4 +1,6 @@
 // The program `regrun`: it reads the whole input and writes the whole output. What the output is, `outputs` says and proves.
+#![tactic(auto)]
+
 ghost use Rattle.std.specs.Prelude.{◌≡◌, length};
 
 use libc::{STDIN_FILENO, STDOUT_FILENO};

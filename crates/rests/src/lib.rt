@@ -1,4 +1,6 @@
 // The rest of the caller's own text, behind a register or a command that was read.
+#![tactic(auto)]
+
 ghost use Rattle.wording.specs.RegisterReader.{register_read};
 ghost use Rattle.wording.specs.CommandReader.{command_read};
 ghost use Rattle.rests.specs.Rest.{RestTold, RegisterRest, CommandRest};

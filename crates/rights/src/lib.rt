@@ -1,23 +1,24 @@
 // The words of a rights register: offices, layers, the header of a register and a command to it.
 // Offices and layers are types of their own, so that neither is ever taken for the other.
+#![tactic(auto)]
 
 ghost use Rattle.std.specs.Prelude.{◌≡◌, ◌+◌};
 ghost use Rattle.rights.specs.Tally.{capped};
 
 // The number of an office.
 #[repr(C)]
-#[derive(Drop)]
+#[derive(Clone, Copy)]
 pub struct Office(pub u16);
 
 // The number of a layer.
 #[repr(C)]
-#[derive(Drop)]
+#[derive(Clone, Copy)]
 pub struct Layer(pub u16);
 
 // What a register's bytes do not say themselves: how many offices there are, which of them is the source of authority, and
 // whose layer it is.
 #[repr(C)]
-#[derive(Drop)]
+#[derive(Clone, Copy)]
 pub struct Header {
     pub n: u16,
     pub soa: Office,
@@ -26,7 +27,7 @@ pub struct Header {
 
 // One command to a register, as it was given: nothing of it is known to be in range.
 #[repr(C)]
-#[derive(Drop)]
+#[derive(Clone, Copy)]
 pub struct Command {
     pub act: u8,
     pub layer: Layer,
@@ -37,7 +38,7 @@ pub struct Command {
 
 // A command of a run, with the place for its answer.
 #[repr(C)]
-#[derive(Drop)]
+#[derive(Clone, Copy)]
 pub struct Entry {
     pub command: Command,
     pub answer: u8,
@@ -45,7 +46,7 @@ pub struct Entry {
 
 // How many records were removed and added, so far.
 #[repr(C)]
-#[derive(Drop)]
+#[derive(Clone, Copy)]
 pub struct Tally {
     pub removed: u64,
     pub added: u64,
@@ -77,7 +78,7 @@ fn more(count: u64, extra: u32) -> u64
 
 // What taking in one command, or a whole run, hands back.
 #[repr(C)]
-#[derive(Drop)]
+#[derive(Clone, Copy)]
 pub struct Ran {
     pub answer: u8,
     pub tally: Tally,

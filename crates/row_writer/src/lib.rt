@@ -1,4 +1,6 @@
 // The writer of a row: the records of one grantor, as text. A room that is too small is left as it was.
+#![tactic(auto)]
+
 ghost use Rattle.std.specs.Prelude.{◌≡◌, ◌≤◌, length};
 ghost use Rattle.rights.specs.Permission.{decoded};
 ghost use Rattle.wording.specs.Records.{row_text};

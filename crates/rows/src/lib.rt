@@ -1,5 +1,7 @@
 // Rows of a register, restricted each as a part of its own. Each function takes any header and any buffer: where the header is
 // none or the buffer is not n·n cells, nothing changes, so that no caller has to prove anything first.
+#![tactic(auto)]
+
 ghost use Rattle.std.specs.Prelude.{◌≡◌, map, ◌<◌};
 ghost use Rattle.rights.specs.Restriction.{restricted, row_to, rows_to};
 ghost use Rattle.rows.specs.Whole.{Whole, if_whole};

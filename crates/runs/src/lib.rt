@@ -1,4 +1,6 @@
 // A run of commands: a lent list of entries, each with a place for its answer.
+#![tactic(auto)]
+
 ghost use Rattle.std.specs.Prelude.{◌≡◌};
 ghost use Rattle.rights.specs.Run.{run_outcome};
 ghost use Rattle.runs.specs.Post.{TakenIn, RanAs};

@@ -1,4 +1,6 @@
 // Whether a register is sound, cell by cell: each is small, empty where no grant may stand, and within its grantor's level.
+#![tactic(auto)]
+
 ghost use Rattle.std.specs.Prelude.{◌≡◌, ◌≤◌, ◌<◌};
 ghost use Rattle.rights.specs.Below.{all_below};
 ghost use Rattle.rights.specs.Sound.{sound_cell, sound_by, register_refusal};

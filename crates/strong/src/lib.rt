@@ -1,4 +1,6 @@
 // Strong global deletion: a column is restricted, and then, round by round, the column of whoever has lost by it.
+#![tactic(auto)]
+
 ghost use Rattle.std.specs.Prelude.{◌≡◌, true};
 ghost use Rattle.rights.specs.Below.{all_below};
 ghost use Rattle.rights.specs.Deletion.{same as same_cells, strong_round, until_rest, sgd as strong_global, same_cell};

@@ -1,5 +1,7 @@
 // Sweeping, and weak global deletion, which is a cell emptied and a sweep. Each function takes any header, any buffer and any office:
 // where the buffer is no register of the header, nothing changes.
+#![tactic(auto)]
+
 ghost use Rattle.std.specs.Prelude.{◌≡◌};
 ghost use Rattle.rights.specs.Restriction.{sweep as swept};
 ghost use Rattle.rights.specs.Deletion.{wgd as weak_global};

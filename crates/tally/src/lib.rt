@@ -1,5 +1,7 @@
 // The tally of a command: the records that one register has and another lacks. Any header and any buffers are taken: where they
 // make no two registers, nothing is missing.
+#![tactic(auto)]
+
 ghost use Rattle.std.specs.Prelude.{◌≡◌, ◌≤◌, length};
 ghost use Rattle.rights.specs.Below.{sum_below};
 ghost use Rattle.tally.specs.Missing.{missing_at, missing_if_whole};

@@ -1,1 +1,2 @@
 // No code: the laws of this crate stand in proofs/.
+#![tactic(auto)]

@@ -68,7 +68,7 @@ inside h e (more {r} {rs} p f a) =
     f (inside h (not_right (outside h r) _ e) a)
 
 -- and the other way round
-none-outside : {lo hi : ℕ} {rs : List Record} (h : Header) → Ascending h.n lo hi rs → any_record (outside h) rs ≡ false
+none-outside : (h : Header) {lo hi : ℕ} {rs : List Record} → Ascending h.n lo hi rs → any_record (outside h) rs ≡ false
 unfolding any_record outside
 none-outside h (none f) = refl
 none-outside h (more {r} {rs} p f a) =
@@ -84,7 +84,7 @@ wider m h (more {r} p f a) =
 
 -- no record is forbidden if none stands where no grant may
 none-forbidden :
-    {lo hi : ℕ} {rs : List Record} (h : Header) → Ascending h.n lo hi rs →
+    (h : Header) {lo hi : ℕ} {rs : List Record} → Ascending h.n lo hi rs →
     ((i j : ℕ) (q : Permission) → i < h.n → j < h.n → stands rs i j (code q) ≡ true → barred h i j ≡ false) →
     any_record (forbidden h) rs ≡ false
 unfolding any_record forbidden stands

@@ -52,16 +52,16 @@ rank_above last i j p f small b t q = go (ltb last.by i) refl t (ltb last.to j) 
 -- and where the rank is higher, all three pass
 record May (last : Record) (i j p : ℕ) : Type 0 where
   may_by : by_may last i ≡ true
-  to_may_lem : to_may last i j ≡ true
-  perm_may_lem : perm_may last i j p ≡ true
+  to_may_ok : to_may last i j ≡ true
+  perm_may_ok : perm_may last i j p ≡ true
 
 rank_may : (last : Record) (i j p : ℕ) → Before last → j ≤ 65535 → 1 ≤ p → rank_of last < rank i j p → May last i j p
 unfolding by_may to_may perm_may
 rank_may last i j p f small some above =
     record {
       may_by = le-leb last.by i (omega arith);
-      to_may_lem = to (ltb last.by i) refl;
-      perm_may_lem = rw (le-leb 1 p some) (perm (ltb last.by i) refl (ltb last.to j) refl);
+      to_may_ok = to (ltb last.by i) refl;
+      perm_may_ok = rw (le-leb 1 p some) (perm (ltb last.by i) refl (ltb last.to j) refl);
     }
   where
     to : (x : Bool) → ltb last.by i ≡ x → (x || leb last.to j) ≡ true
@@ -161,7 +161,7 @@ record_written last r rest f p above =
     let bl = line_written by_line r.by behind-by (le-leb r.by 65535 (omega arith)) in
     let tl = line_written to_line r.to behind-to (le-leb r.to 65535 (omega arith)) in
     let pl = line_written perm_line r.perm rest (worded-code r.perm p.coded) in
-    simp append_assoc (rw (bl, m.may_by, tl, m.to-may, pl, m.perm-may))
+    simp append_assoc (rw (bl, m.may_by, tl, m.to_may_ok, pl, m.perm_may_ok))
 
 -- the step of the reader of records, for each thing that it may find
 pub records_end : (k : ℕ) (last : Record) (text rest : List ℕ) → after_word end_text text ≡ after rest → records_from (suc k) last text ≡ got [] rest
@@ -238,11 +238,11 @@ pub records-written :
 unfolding records_text and_before
 records-written {rs} zero last rest f below a enough = let z : ⊥ = omega arith in absurd z
 records-written (suc k) last rest f below (none e) enough = records_end k last (end_text ++ rest) rest (after_word-written end_text rest)
-records-written (suc k) last rest f below (more {r} {rs} p e a) enough =
+records-written {lo = lo} {hi = hi} (suc k) last rest f below (more {r = r} {rs = rs} p e a) enough =
     let tail = records_text rs ++ (end_text ++ rest) in
     let above : rank_of last < rank_of r = omega arith in
     let one = records-more k last (record_text r ++ tail) r tail (not_end r tail) (record_written last r tail f p above) in
-    let others = records-written k r rest (before_next r p) (omega arith) a (omega arith) in
+    let others = records-written {lo = suc (rank_of r)} k r rest (before_next r p) (omega arith) a (omega arith) in
     rw append_assoc (one ∙ (rw others))
 
 -- a record's text is not empty

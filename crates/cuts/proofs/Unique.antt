@@ -2,6 +2,7 @@
 -- `Post` is the contract as the check reads it: of the lifetimes, the arguments, the result and the arguments at exit.
 use Prim.Native.Nat.{ℕ}
 use mathlib.Core.List.{List}
+use denote.Bor.{Bor}
 use denote.Ref.{MutBor, at_last}
 use Rattle.rights.specs.declared.Header.{Header}
 use Rattle.rights.specs.declared.Office.{Office}
@@ -22,7 +23,7 @@ pub add_record_once :
 add_record_once κs cells h i j perm = no_second _
 
 pub hand_over_once :
-    (κs : _) (cells : MutBor (List ℕ)) (h : Header) (i j : Office) (before : MutBor (List ℕ)) →
+    (κs : _) (cells : MutBor (List ℕ)) (h : Header) (i j : Office) (before : Bor (List ℕ)) →
     Once (λ (bytes : List ℕ).
     hand-over.Post κs (cells, (h, (i, (j, (before, tt))))) tt (at_last cells bytes, (h, (i, (j, (before, tt))))))
 hand_over_once κs cells h i j before = no_second _

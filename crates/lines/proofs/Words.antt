@@ -98,12 +98,12 @@ unfolding line_at line_of behind_key
 behind_key_lem text at k next w = rw w.behind refl
 
 -- every kind but act and perm has a number
-pub number-form : (k : LineKind) → OneOf (0 ∷ 1 ∷ 2 ∷ 4 ∷ 5 ∷ []) (tag_of the_type k) → form (kind_of k) ≡ decimal
+pub number-form : (k : LineKind) → (k ≡ Act → ⊥) → (k ≡ Perm → ⊥) → form (kind_of k) ≡ decimal
 unfolding form kind_of
-number-form N h = refl
-number-form Soa h = refl
-number-form Layer h = refl
-number-form Act h = absurd (miss (0 ∷ 1 ∷ 2 ∷ 4 ∷ 5 ∷ []) 3 tt h)
-number-form By h = refl
-number-form To h = refl
-number-form Perm h = absurd (miss (0 ∷ 1 ∷ 2 ∷ 4 ∷ 5 ∷ []) 6 tt h)
+number-form N a p = refl
+number-form Soa a p = refl
+number-form Layer a p = refl
+number-form Act a p = absurd (a refl)
+number-form By a p = refl
+number-form To a p = refl
+number-form Perm a p = absurd (p refl)

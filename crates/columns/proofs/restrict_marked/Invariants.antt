@@ -1,0 +1,15 @@
+-- `columns::restrict_marked` meets its contract: before each turn the marked cells before y are restricted. Assumes nothing.
+use Prim.Native.Nat.{◌-◌}
+use mathlib.Core.Path.{ap₂, ◌∙◌}
+use lib.ListN.{length}
+use native.Mathlib.Omega.{arith}
+use Rattle.rights.specs.Cell.{restrict}
+use Rattle.columns.specs.Marked.{is_marked, where_marked, marked_cell, marked_to_level}
+use Rattle.rows.proofs.Table.{Walk, walk_start, walk_here, walk_next, walk_over}
+use Rattle.columns.proofs.restrict_marked.Given as goal
+
+abbrev pub invariant-loop-y : goal.invariant-loop-y
+invariant-loop-y l = Walk (marked_cell l.columns l.level l.initial.row) l.initial.row l.row l.y
+
+abbrev pub decreases-loop-y : goal.decreases-loop-y
+decreases-loop-y l = length l.initial.row - l.y

@@ -19,8 +19,10 @@ use Rattle.questions.specs.Step.{searched, outcome_of}
 use Rattle.questions.proofs.Sets.{smallest-padded, fewest-padded}
 
 -- the parts of an outcome
-pub parts : (a b : Answer) → a ≡ b → (a.answer ≡ b.answer) × ((a.offices ≡ b.offices) × (a.chain ≡ b.chain))
-parts a b e = rw e (refl, (refl, refl))
+pub parts :
+    (a b : Answer) → a ≡ b →
+    record { answer : a.answer ≡ b.answer; offices : a.offices ≡ b.offices; chain : a.chain ≡ b.chain }
+parts a b e = rw e record { answer = refl; offices = refl; chain = refl }
 
 module _ (h : Header) (R : List ℕ) (p : Permission) (j : ℕ) (inside : soa_of h < h.n) (office : j < h.n) where
   module _ (set : List Bool) (links : ℕ) (one : set ≡ padded false (single h j)) (fewest : links ≡ fewest_into h R p set) where

@@ -10,21 +10,18 @@ use Rattle.columns.proofs.restrict_each_marked.Goals as goal
 
 pub loop-i-init : goal.loop-i-init
 loop-i-init c =
-    let start = c in
-    rows_start start.args.header start.args.cells.now start.requires (columns_to (is_marked start.args.columns) start.args.levels)
+    rows_start c.args.header c.args.cells.now c.requires (columns_to (is_marked c.args.columns) c.args.levels)
 
 pub restrict_marked_of-requires : goal.restrict_marked_of-requires
 restrict_marked_of-requires c =
-    let start = c in
     let at = c.loop-i in
-    (rows_whole start.args.header start.args.cells.now start.requires (columns_to (is_marked start.args.columns) start.args.levels) at.cells at.i at.invariant, search rules)
+    (rows_whole c.args.header c.args.cells.now c.requires (columns_to (is_marked c.args.columns) c.args.levels) at.cells at.i at.invariant, search rules)
 
 pub loop-i-preserved : goal.loop-i-preserved
 unfolding columns_to where_marked level_in
 loop-i-preserved c =
-    let start = c in
     let at = c.loop-i in
-    rows_next start.args.header start.args.cells.now start.requires (columns_to (is_marked start.args.columns) start.args.levels) at.cells
+    rows_next c.args.header c.args.cells.now c.requires (columns_to (is_marked c.args.columns) c.args.levels) at.cells
     c.restrict_marked_of.new.cells at.i at.invariant (omega arith) c.restrict_marked_of.ensures
 
 pub shape_of-cells : goal.shape_of-cells
@@ -32,6 +29,5 @@ shape_of-cells c = c.loop-i.invariant.long
 
 pub returns : goal.returns
 returns c =
-    let start = c in
     let at = c.loop-i in
-    rows_over start.args.header start.args.cells.now start.requires (columns_to (is_marked start.args.columns) start.args.levels) at.cells at.i at.invariant (omega arith)
+    rows_over c.args.header c.args.cells.now c.requires (columns_to (is_marked c.args.columns) c.args.levels) at.cells at.i at.invariant (omega arith)

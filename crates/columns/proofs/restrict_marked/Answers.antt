@@ -10,16 +10,14 @@ use Rattle.columns.proofs.restrict_marked.Goals as goal
 
 pub loop-y-init : goal.loop-y-init
 loop-y-init c =
-    let start = c in
-    walk_start (marked_cell start.args.columns start.args.level start.args.row.now) start.args.row.now
+    walk_start (marked_cell c.args.columns c.args.level c.args.row.now) c.args.row.now
 
 pub loop-y-preserved : goal.loop-y-preserved
 unfolding marked_cell where_marked is_marked
 loop-y-preserved c =
-    let start = c in
     let at = c.loop-y in
-    let row = start.args.row.now in
-    let rule = marked_cell start.args.columns start.args.level row in
+    let row = c.args.row.now in
+    let rule = marked_cell c.args.columns c.args.level row in
     walk_next rule row at.row at.y c.restrict.result at.invariant (omega arith)
     (c.restrict.ensures
     ∙ ap₂ restrict (walk_here rule row at.row at.y at.invariant (omega arith)) c.column_level.ensures)
@@ -30,7 +28,6 @@ shape_of-row c = c.loop-y.invariant.long
 pub returns : goal.returns
 unfolding marked_to_level
 returns c =
-    let start = c in
-    let row = start.args.row.now in
-    walk_over (marked_cell start.args.columns start.args.level row) row c.loop-y.row c.loop-y.y c.loop-y.invariant
+    let row = c.args.row.now in
+    walk_over (marked_cell c.args.columns c.args.level row) row c.loop-y.row c.loop-y.y c.loop-y.invariant
     (omega arith)

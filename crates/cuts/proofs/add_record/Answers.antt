@@ -6,25 +6,16 @@ use Rattle.cuts.proofs.add_record.Goals as goal
 
 pub store-requires : goal.store-requires
 store-requires c =
-    let whole = c in
-    let start = whole in
-    whole_if start.args.header start.args.cells.now whole.readable.ensures whole.if-readable.true
+    whole_if c.args.header c.args.cells.now c.readable.ensures c.if-readable.true
 
 pub returns-then-readable : goal.returns-then-readable
 returns-then-readable c =
-    let storing = c in
-    let joining = storing in
-    let added = joining in
-    let stood = added in
-    let whole = stood in
-    let start = whole in
-    let h = start.args.header in
-    let R = start.args.cells.now in
-    changed_if h R whole.readable.ensures whole.if-readable.true
-    (granted-by h R start.args.i.0 start.args.j.0 (decoded start.args.perm) stood.cell-c.ensures
-    added.record_of.ensures joining.union.ensures storing.store.ensures)
+    let h = c.args.header in
+    let R = c.args.cells.now in
+    changed_if h R c.readable.ensures c.if-readable.true
+    (granted-by h R c.args.i.0 c.args.j.0 (decoded c.args.perm) c.cell-c.ensures
+    c.record_of.ensures c.union.ensures c.store.ensures)
 
 pub returns-else-readable : goal.returns-else-readable
 returns-else-readable c =
-    let start = c in
-    kept_if start.args.header start.args.cells.now c.readable.ensures c.if-readable.false _
+    kept_if c.args.header c.args.cells.now c.readable.ensures c.if-readable.false _

@@ -6,22 +6,18 @@ use Rattle.cuts.proofs.hand_over.Goals as goal
 
 pub hand_row-requires : goal.hand_row-requires
 hand_row-requires c =
-    let start = c in
-    whole_if start.args.header start.args.cells.now c.readable-then-readable.ensures c.if-readable-2.true
+    whole_if c.args.header c.args.cells.now c.readable-then-readable.ensures c.if-readable-2.true
 
 pub returns-then-readable-2 : goal.returns-then-readable-2
 unfolding if_both_whole
 returns-then-readable-2 c =
-    let second = c in
-    let first = second in
-    rw (sym first.readable.ensures ∙ first.if-readable.true, sym second.readable-then-readable.ensures ∙ second.if-readable-2.true)
+    rw (sym c.readable.ensures ∙ c.if-readable.true, sym c.readable-then-readable.ensures ∙ c.if-readable-2.true)
     c.hand_row.ensures
 
 pub returns-else-readable-2 : goal.returns-else-readable-2
 unfolding if_both_whole
 returns-else-readable-2 c =
-    let first = c in
-    rw (sym first.readable.ensures ∙ first.if-readable.true, sym c.readable-then-readable.ensures ∙ c.if-readable-2.false)
+    rw (sym c.readable.ensures ∙ c.if-readable.true, sym c.readable-then-readable.ensures ∙ c.if-readable-2.false)
 
 pub returns-else-readable : goal.returns-else-readable
 unfolding if_both_whole

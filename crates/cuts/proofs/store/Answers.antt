@@ -8,36 +8,30 @@ use Rattle.cuts.proofs.store.Goals as goal
 
 pub overflow_mul-k : goal.overflow_mul-k
 overflow_mul-k c =
-    let start = c in
-    let n = start.args.header.n in
-    omega (arith, digits_lt c.if-x-n.true c.if-y-n.true, square_small n start.requires.few, start.requires.cells)
+    let n = c.args.header.n in
+    omega (arith, digits_lt c.if-x-n.true c.if-y-n.true, square_small n c.requires.few, c.requires.cells)
 
 pub overflow_add-k : goal.overflow_add-k
 overflow_add-k c =
-    let start = c in
-    let n = start.args.header.n in
-    omega (arith, digits_lt c.if-x-n.true c.if-y-n.true, square_small n start.requires.few, start.requires.cells)
+    let n = c.args.header.n in
+    omega (arith, digits_lt c.if-x-n.true c.if-y-n.true, square_small n c.requires.few, c.requires.cells)
 
 pub bounds-cells-k : goal.bounds-cells-k
 bounds-cells-k c =
-    let start = c in
-    let n = start.args.header.n in
-    omega (arith, digits_lt c.if-x-n.true c.if-y-n.true, square_small n start.requires.few, start.requires.cells)
+    let n = c.args.header.n in
+    omega (arith, digits_lt c.if-x-n.true c.if-y-n.true, square_small n c.requires.few, c.requires.cells)
 
 pub returns-then-y-n : goal.returns-then-y-n
 returns-then-y-n c =
-    let start = c in
-    stored-set start.args.header start.args.cells.now start.args.i.0 start.args.j.0 start.args.v start.requires
+    stored-set c.args.header c.args.cells.now c.args.i.0 c.args.j.0 c.args.v c.requires
     c.if-x-n.true c.if-y-n.true
 
 pub returns-else-y-n : goal.returns-else-y-n
 returns-else-y-n c =
-    let start = c in
-    sym (stored_nowhere start.args.header start.args.cells.now start.args.i.0 start.args.j.0 start.args.v
-    start.requires (λ hi hj. omega arith))
+    sym (stored_nowhere c.args.header c.args.cells.now c.args.i.0 c.args.j.0 c.args.v
+    c.requires (λ hi hj. omega arith))
 
 pub returns-else-x-n : goal.returns-else-x-n
 returns-else-x-n c =
-    let start = c in
-    sym (stored_nowhere start.args.header start.args.cells.now start.args.i.0 start.args.j.0 start.args.v
-    start.requires (λ hi hj. omega arith))
+    sym (stored_nowhere c.args.header c.args.cells.now c.args.i.0 c.args.j.0 c.args.v
+    c.requires (λ hi hj. omega arith))

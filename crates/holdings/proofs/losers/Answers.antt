@@ -7,24 +7,20 @@ use Rattle.holdings.proofs.losers.Goals as goal
 
 pub loser_marks-requires : goal.loser_marks-requires
 loser_marks-requires c =
-    let second = c in
-    (readable-header _ _ (sym second.readable-then-readable.ensures ∙ second.if-readable-2.true)).0
+    (readable-header _ _ (sym c.readable-then-readable.ensures ∙ c.if-readable-2.true)).0
 
 pub returns-then-readable-2 : goal.returns-then-readable-2
 returns-then-readable-2 c =
-    let second = c in
-    let first = second in
-    let a = first.args in
+    let a = c.args in
     rw (c.loser_marks.ensures, c.levels-before_levels.ensures, c.levels-after_levels.ensures)
     (losers_marked a.header a.before.now a.after.now
-    (sym first.readable.ensures ∙ first.if-readable.true)
-    (sym second.readable-then-readable.ensures ∙ second.if-readable-2.true))
+    (sym c.readable.ensures ∙ c.if-readable.true)
+    (sym c.readable-then-readable.ensures ∙ c.if-readable-2.true))
 
 pub returns-else-readable-2 : goal.returns-else-readable-2
 unfolding padded
 returns-else-readable-2 c =
-    let first = c in
-    sym (none_after _ _ _ (sym first.readable.ensures ∙ first.if-readable.true) (sym c.readable-then-readable.ensures ∙ c.if-readable-2.false))
+    sym (none_after _ _ _ (sym c.readable.ensures ∙ c.if-readable.true) (sym c.readable-then-readable.ensures ∙ c.if-readable-2.false))
 
 pub returns-else-readable : goal.returns-else-readable
 unfolding padded

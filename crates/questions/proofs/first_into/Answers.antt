@@ -15,8 +15,7 @@ loop-y-init c = (refl, omega arith, below_none _)
 
 pub returns-then-link_into : goal.returns-then-link_into
 returns-then-link_into c =
-    let at = c in
-    first_found _ _ at.loop-y.y c.loop-y-test.true at.loop-y.invariant.2 (sym c.link_into.ensures ∙ c.if-link_into.true)
+    first_found _ _ c.loop-y.y c.loop-y-test.true c.loop-y.invariant.2 (sym c.link_into.ensures ∙ c.if-link_into.true)
 
 pub loop-y-preserved : goal.loop-y-preserved
 loop-y-preserved c =

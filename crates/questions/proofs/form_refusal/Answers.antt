@@ -12,17 +12,14 @@ returns-then-not-is_code c = rw (sym c.is_code.ensures ∙ c.if-not-is_code.true
 pub returns-then-n-office : goal.returns-then-n-office
 unfolding question_form_refusal first_of unless
 returns-then-n-office c =
-    let code = c in
-    rw (sym code.is_code.ensures ∙ code.if-not-is_code.false, le-ltb _ _ c.if-n-office.true)
+    rw (sym c.is_code.ensures ∙ c.if-not-is_code.false, le-ltb _ _ c.if-n-office.true)
 
 pub returns-then-room-n : goal.returns-then-room-n
 unfolding question_form_refusal first_of unless
 returns-then-room-n c =
-    let code = c in
-    rw (sym code.is_code.ensures ∙ code.if-not-is_code.false, lt-ltb _ _ c.if-n-office.false, lt-leb _ _ c.if-room-n.true)
+    rw (sym c.is_code.ensures ∙ c.if-not-is_code.false, lt-ltb _ _ c.if-n-office.false, lt-leb _ _ c.if-room-n.true)
 
 pub returns : goal.returns
 unfolding question_form_refusal first_of unless
 returns c =
-    let code = c in
-    rw (sym code.is_code.ensures ∙ code.if-not-is_code.false, lt-ltb _ _ c.if-n-office.false, le-leb _ _ c.if-room-n.false)
+    rw (sym c.is_code.ensures ∙ c.if-not-is_code.false, lt-ltb _ _ c.if-n-office.false, le-leb _ _ c.if-room-n.false)

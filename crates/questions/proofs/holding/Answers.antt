@@ -11,24 +11,17 @@ returns-then-register-ne0 c = parts _ _ (answered-register _ _ _ _ _ _ c.registe
 
 pub returns-then-form-ne0 : goal.returns-then-form-ne0
 returns-then-form-ne0 c =
-    let stands = c in
     parts _ _
-    (answered-form _ _ _ _ _ (sym stands.register_refusal-register.ensures ∙ stands.if-register-ne0.false) _ c.form_refusal-form.ensures c.if-form-ne0.true)
+    (answered-form _ _ _ _ _ (sym c.register_refusal-register.ensures ∙ c.if-register-ne0.false) _ c.form_refusal-form.ensures c.if-form-ne0.true)
 
 pub search-requires : goal.search-requires
 search-requires c =
-    let form = c in
-    let stands = form in
-    let headed = (register_ready _ _ (sym stands.register_refusal-register.ensures ∙ stands.if-register-ne0.false)).headed in
-    let formed = sym form.form_refusal-form.ensures ∙ c.if-form-ne0.false in
+    let headed = (register_ready _ _ (sym c.register_refusal-register.ensures ∙ c.if-register-ne0.false)).headed in
+    let formed = sym c.form_refusal-form.ensures ∙ c.if-form-ne0.false in
     record { n_bound = (headed_high _ headed, headed_inside _ headed); office_lt_n = (form_office _ _ _ _ formed, form-room _ _ _ _ formed) }
 
 pub returns : goal.returns
 returns c =
-    let call = c in
-    let formed = call in
-    let form = formed in
-    let stands = form in
     parts _ _
-    (call.search.ensures
-    ∙ answered-searched _ _ _ _ _ (sym stands.register_refusal-register.ensures ∙ stands.if-register-ne0.false) (sym form.form_refusal-form.ensures ∙ formed.if-form-ne0.false))
+    (c.search.ensures
+    ∙ answered-searched _ _ _ _ _ (sym c.register_refusal-register.ensures ∙ c.if-register-ne0.false) (sym c.form_refusal-form.ensures ∙ c.if-form-ne0.false))

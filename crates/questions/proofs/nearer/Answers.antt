@@ -16,11 +16,9 @@ loop-x-init c = (refl, omega arith, padded-none false _)
 
 pub loop-x-preserved : goal.loop-x-preserved
 loop-x-preserved c =
-    let at = c in
-    (refl, omega arith, rw (at.loop-x.invariant.2, c.first_into.ensures, leads_first) (padded-more false _ at.loop-x.x (omega arith)))
+    (refl, omega arith, rw (c.loop-x.invariant.2, c.first_into.ensures, leads_first) (padded-more false _ c.loop-x.x (omega arith)))
 
 pub returns : goal.returns
 returns c =
-    let at = c in
-    let all : at.loop-x.x ≡ at.args.header.n = omega arith in
-    at.loop-x.invariant.2 ∙ rw (all, nearer_leads)
+    let all : c.loop-x.x ≡ c.args.header.n = omega arith in
+    c.loop-x.invariant.2 ∙ rw (all, nearer_leads)

@@ -5,16 +5,10 @@ use Rattle.questions.proofs.search.Goals as goal
 
 pub returns-then-n-links : goal.returns-then-n-links
 returns-then-n-links c =
-    let links = c in
-    let one = links in
-    let pre = one.requires in
-    searched-none _ _ _ _ pre.0.1 pre.1.0 _ _ one.single-set.ensures links.fewest-links.ensures _ c.if-n-links.true
+    let pre = c.requires in
+    searched-none _ _ _ _ pre.n_bound.1 pre.office_lt_n.0 _ _ c.single-set.ensures c.fewest-links.ensures _ c.if-n-links.true
 
 pub returns : goal.returns
 returns c =
-    let call = c in
-    let few = call in
-    let links = few in
-    let one = links in
-    let pre = one.requires in
-    searched_some _ _ _ _ pre.0.1 pre.1.0 _ _ one.single-set.ensures links.fewest-links.ensures _ _ few.if-n-links.false call.write.ensures.whole
+    let pre = c.requires in
+    searched_some _ _ _ _ pre.n_bound.1 pre.office_lt_n.0 _ _ c.single-set.ensures c.fewest-links.ensures _ _ c.if-n-links.false c.write.ensures.whole

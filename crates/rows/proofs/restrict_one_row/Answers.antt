@@ -5,30 +5,25 @@ use Rattle.rows.proofs.Guard.{whole_if, changed_if, kept_if}
 use Rattle.rows.proofs.restrict_one_row.Goals as goal
 
 pub restrict_row_of-requires : goal.restrict_row_of-requires
-restrict_row_of-requires c =
-    let start = c in (
-      whole_if start.args.header start.args.cells.now c.readable.ensures c.if-readable.true,
-      c.if-i-header.true,
-    )
+restrict_row_of-requires c = (
+  whole_if c.args.header c.args.cells.now c.readable.ensures c.if-readable.true,
+  c.if-i-header.true,
+)
 
 pub returns-then-i-header : goal.returns-then-i-header
 returns-then-i-header c =
-    let at = c in
-    let start = at in
-    changed_if start.args.header start.args.cells.now at.readable.ensures
-    at.if-readable.true c.restrict_row_of.ensures
+    changed_if c.args.header c.args.cells.now c.readable.ensures
+    c.if-readable.true c.restrict_row_of.ensures
 
 pub returns-else-i-header : goal.returns-else-i-header
 returns-else-i-header c =
-    let start = c in
-    let h = start.args.header in
-    let R = start.args.cells.now in
+    let h = c.args.header in
+    let R = c.args.cells.now in
     let says = c.readable.ensures in
     let passed = c.if-readable.true in
     changed_if h R says passed
-    (sym (rows_nowhere h R (whole_if h R says passed) start.args.row.0 start.args.level c.if-i-header.false))
+    (sym (rows_nowhere h R (whole_if h R says passed) c.args.row.0 c.args.level c.if-i-header.false))
 
 pub returns-else-readable : goal.returns-else-readable
 returns-else-readable c =
-    let start = c in
-    kept_if start.args.header start.args.cells.now c.readable.ensures c.if-readable.false _
+    kept_if c.args.header c.args.cells.now c.readable.ensures c.if-readable.false _

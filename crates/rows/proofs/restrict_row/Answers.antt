@@ -13,20 +13,18 @@ loop-y-init c = walk_start (each (at_level c.args.level) c.args.row.now) c.args.
 pub loop-y-preserved : goal.loop-y-preserved
 unfolding each at_level
 loop-y-preserved c =
-    let start = c in
     let at = c.loop-y in
-    let row = start.args.row.now in
-    let rule = each (at_level start.args.level) row in
+    let row = c.args.row.now in
+    let rule = each (at_level c.args.level) row in
     walk_next rule row at.row at.y c.restrict.result at.invariant (omega arith)
-    (c.restrict.ensures ∙ ap (at_level start.args.level) (walk_here rule row at.row at.y at.invariant (omega arith)))
+    (c.restrict.ensures ∙ ap (at_level c.args.level) (walk_here rule row at.row at.y at.invariant (omega arith)))
 
 pub shape_of-row : goal.shape_of-row
 shape_of-row c = c.loop-y.invariant.long
 
 pub returns : goal.returns
 returns c =
-    let start = c in
-    let row = start.args.row.now in
-    let level = start.args.level in
+    let row = c.args.row.now in
+    let level = c.args.level in
     walk_over (each (at_level level) row) row c.loop-y.row c.loop-y.y c.loop-y.invariant (omega arith)
     ∙ map_each (at_level level) row

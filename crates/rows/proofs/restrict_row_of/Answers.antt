@@ -19,9 +19,8 @@ overflow_add-end c =
 
 pub returns : goal.returns
 returns c =
-    let start = c in
-    let h = start.args.header in
-    let i = start.args.i in
-    let R = start.args.cells.now in
+    let h = c.args.header in
+    let i = c.args.i in
+    let R = c.args.cells.now in
     ap (put_mid (i * h.n) (i * h.n + h.n - i * h.n) R) c.restrict_row.ensures
-    ∙ put_row_to h R start.requires.0 i start.requires.1 (i * h.n + h.n) refl start.args.level
+    ∙ put_row_to h R c.requires.0 i c.requires.1 (i * h.n + h.n) refl c.args.level

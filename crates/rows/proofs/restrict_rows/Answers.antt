@@ -4,17 +4,13 @@ use Rattle.rows.proofs.restrict_rows.Goals as goal
 
 pub restrict_each_row-requires : goal.restrict_each_row-requires
 restrict_each_row-requires c =
-    let start = c in
-    whole_if start.args.header start.args.cells.now c.readable.ensures c.if-readable.true
+    whole_if c.args.header c.args.cells.now c.readable.ensures c.if-readable.true
 
 pub returns-then-readable : goal.returns-then-readable
 returns-then-readable c =
-    let at = c in
-    let start = at in
-    changed_if start.args.header start.args.cells.now at.readable.ensures at.if-readable.true
+    changed_if c.args.header c.args.cells.now c.readable.ensures c.if-readable.true
     c.restrict_each_row.ensures
 
 pub returns-else-readable : goal.returns-else-readable
 returns-else-readable c =
-    let start = c in
-    kept_if start.args.header start.args.cells.now c.readable.ensures c.if-readable.false _
+    kept_if c.args.header c.args.cells.now c.readable.ensures c.if-readable.false _

@@ -2,12 +2,8 @@
 use mathlib.Core.Path.{refl}
 use Rattle.wording.specs.RegisterReader.{no_header}
 use Rattle.register_reader.specs.Told.{register_not}
-use Rattle.register_reader.proofs.no_register.Statement.{statement}
-use Rattle.register_reader.proofs.no_register.Tie as tie
+use Rattle.register_reader.proofs.no_register.Goals as goal
 
-returns : tie.Need-returns
+pub returns : goal.returns
 unfolding register_not no_header
 returns c = refl
-
-pub no-register-spec : {M : Type 1} → statement M
-no-register-spec = tie.close (tie.spec returns)

@@ -7,7 +7,7 @@ use lib.ListN.{length, take, drop, length-drop, drop_of_length-le}
 use lib.Seq.{take_all, take-nil, drop-length}
 use Rattle.wording.specs.RegisterReader.{register_read}
 use Rattle.wording.specs.CommandReader.{command_read}
-use Rattle.wording.proofs.RegisterText as register_text_lem
+use Rattle.wording.proofs.RegisterText as register-text
 use Rattle.wording.proofs.CommandText as command-text
 use Rattle.command_reader.specs.CommandTold.{command_answer, command_told}
 use Rattle.register_reader.specs.Told.{register_answer, RegisterTold}
@@ -29,7 +29,7 @@ module _ {start there : ℕ × ℕ} {text rest : List ℕ} where
       record {
         bytes = told.bytes ∙ ap (λ (k : ℕ). drop k text) n ∙ sym (command-text.command-rest text);
         same_text = told.same_text;
-        place = omega (arith, told.place, (command-text.command-within text).0);
+        place = omega (arith, told.place, (command-text.command_within text).0);
       }
 
   pub register_rest_told :
@@ -39,8 +39,8 @@ module _ {start there : ℕ × ℕ} {text rest : List ℕ} where
   register_rest_told buffer read was told =
       let n : read.next ≡ (register_read text buffer).next = ap (λ (r : RegisterRead). r.next) was.answer in
       record {
-        bytes = told.bytes ∙ ap (λ (k : ℕ). drop k text) n ∙ sym (register_text_lem.register-rest text buffer);
+        bytes = told.bytes ∙ ap (λ (k : ℕ). drop k text) n ∙ sym (register-text.register-rest text buffer);
         same_text = told.same_text;
-        place = omega (arith, told.place, (register_text_lem.register-within text buffer).0);
+        place = omega (arith, told.place, (register-text.register_within text buffer).0);
         buffer = was.buffer;
       }

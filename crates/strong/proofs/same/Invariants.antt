@@ -1,0 +1,17 @@
+-- `strong::same` meets its contract. The loop's invariant: each row passed is the same in both. Assumes nothing.
+use Prim.Native.Nat.{◌≤◌, ◌<◌, ◌-◌}
+use native.Mathlib.Omega.{arith}
+use mathlib.Core.Path.{◌≡◌, refl, sym}
+use mathlib.Core.Bool.{true}
+use borrow.Author.Tests.{not-true, not-false}
+use Rattle.rights.specs.Below.{all_below}
+use Rattle.rights.specs.Deletion.{same}
+use Rattle.levels.proofs.Loops.{all_more, one_fails}
+use Rattle.strong.proofs.Alike.{same_row}
+use Rattle.strong.proofs.same.Given as goal
+
+abbrev pub invariant-loop-i : goal.invariant-loop-i
+invariant-loop-i l = (l.i ≤ l.n) × (all_below l.i (same_row l.header l.a l.b) ≡ true)
+
+abbrev pub decreases-loop-i : goal.decreases-loop-i
+decreases-loop-i l = l.n - l.i

@@ -32,6 +32,9 @@ pub record Stand : Type 0 where
   pub entries : List Entry
   pub tally : Tally
 
+abbrev pub standing : ℕ → List ℕ → List Entry → Tally → Stand
+standing k cells entries tally = record { k = k; cells = cells; entries = entries; tally = tally }
+
 -- the entry whose turn it is
 abbrev pub entry_at : Stand → Entry
 entry_at s = get_or s.entries s.k blank

@@ -15,4 +15,4 @@ pub returns : goal.returns
 unfolding answer_written
 returns c =
     let there = put_part 0 54 c.args.from (answer_text c.args.done.answer c.args.done.removed c.args.done.added) c.args.room.now refl c.requires (answer_short _ _ _ (omega arith) (omega arith) (omega arith)) c.write_answer-lines.ensures in
-    record { text = there.text-put; few = there.few }
+    record { text = there.text_put; few = there.few }

@@ -15,4 +15,4 @@ pub returns : goal.returns
 unfolding end_written end_text
 returns c =
     let there = put_part 0 13 c.args.from end_text c.args.room.now refl c.requires (omega arith) c.write_end-line.ensures in
-    record { text = there.text-put; few = there.few }
+    record { text = there.text_put; few = there.few }

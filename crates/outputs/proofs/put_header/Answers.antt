@@ -16,4 +16,4 @@ pub returns : goal.returns
 unfolding header_written
 returns c =
     let there = put_part _ 26 c.args.from (header_text c.args.header) c.args.room.now (header_accepted c.args.header c.requires.0) c.requires.1 (header_short c.args.header c.requires.0 (omega arith)) c.write_header-lines.ensures in
-    record { text = there.text-put; few = there.few }
+    record { text = there.text_put; few = there.few }

@@ -15,4 +15,4 @@ pub returns : goal.returns
 unfolding refused_written
 returns c =
     let there = put_part 0 33 c.args.from (refused_text c.args.number c.args.at) c.args.room.now refl c.requires.0 (refused_short _ _ (omega arith) (omega (arith, c.requires.1))) c.write_refused-lines.ensures in
-    record { text = there.text-put; few = there.few }
+    record { text = there.text_put; few = there.few }

@@ -14,14 +14,14 @@ pub put_rows-end-requires : goal.put_rows-end-requires
 put_rows-end-requires c =
     let header = c.put_header-rows.ensures in
     let ready = register_ready c.args.header c.args.cells.now c.requires.0 in
-    (c.requires.0, omega (arith, c.requires.1, header.1, put_length header.0, headed_high c.args.header ready.headed))
+    (c.requires.0, omega (arith, c.requires.1, header.few, put_length header.text, headed_high c.args.header ready.headed))
 
 pub put_end-requires : goal.put_end-requires
 put_end-requires c =
     let header = c.put_header-rows.ensures in
     let rows = c.put_rows-end.ensures in
     let ready = register_ready c.args.header c.args.cells.now c.requires.0 in
-    omega (arith, c.requires.1, header.1, put_length header.0, rows.1, put_length rows.0, headed_high c.args.header ready.headed)
+    omega (arith, c.requires.1, header.few, put_length header.text, rows.few, put_length rows.text, headed_high c.args.header ready.headed)
 
 pub returns : goal.returns
 unfolding register_text
@@ -30,4 +30,4 @@ returns c =
     let rows = c.put_rows-end.ensures in
     let end = c.put_end.ensures in
     let ready = register_ready c.args.header c.args.cells.now c.requires.0 in
-    record { text = put_both header.0 (put_both rows.0 end.0); few = omega (arith, header.1, rows.1, end.1, headed_high c.args.header ready.headed) }
+    record { text = put_both header.text (put_both rows.text end.text); few = omega (arith, header.few, rows.few, end.few, headed_high c.args.header ready.headed) }

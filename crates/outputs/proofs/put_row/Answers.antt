@@ -17,4 +17,4 @@ pub returns : goal.returns
 unfolding row_written
 returns c =
     let there = put_part _ 11264 c.args.from (row_text c.args.header c.args.cells.now c.args.row.0) c.args.room.now (row_accepted c.args.header c.args.cells.now c.requires.0 c.args.row.0 c.requires.1) c.requires.2 (row_short c.args.header c.args.cells.now c.args.row.0 (register_ready c.args.header c.args.cells.now c.requires.0).headed c.requires.1) c.write_row-lines.ensures in
-    record { text = there.text-put; few = there.few }
+    record { text = there.text_put; few = there.few }

@@ -21,7 +21,7 @@ pub loop-row-preserved : goal.loop-row-preserved
 unfolding joined
 loop-row-preserved c =
     let row = c.put_row-next.ensures in
-    (search rules, rw add-one (put_both c.loop-row.invariant.1 row.0), omega (arith, row.1))
+    (search rules, rw add-one (put_both c.loop-row.invariant.1 row.text), omega (arith, row.few))
 
 pub shape_of-room : goal.shape_of-room
 shape_of-room c = put_length c.loop-row.invariant.1

@@ -9,11 +9,11 @@ returns-then-room-lt1700000 c = record { told = room_short c.args.input.now c.ar
 pub returns-then-input-gt65536 : goal.returns-then-input-gt65536
 returns-then-input-gt65536 c =
     let there = c.put_refused-size.ensures in
-    let whole = rw (output_long c.args.input.now (omega arith)) at there.0 in
-    record { told = output_told c.args.input.now c.args.room.now (omega arith) (omega (arith, there.1)) whole; few = omega (arith, there.1) }
+    let whole = rw (output_long c.args.input.now (omega arith)) at there.text in
+    record { told = output_told c.args.input.now c.args.room.now (omega arith) (omega (arith, there.few)) whole; few = omega (arith, there.few) }
 
 pub returns : goal.returns
 returns c =
     let there = c.put_output-size.ensures in
-    let whole = rw (output_read c.args.input.now (omega arith)) at there.0 in
-    record { told = output_told c.args.input.now c.args.room.now (omega arith) there.1 whole; few = there.1 }
+    let whole = rw (output_read c.args.input.now (omega arith)) at there.text in
+    record { told = output_told c.args.input.now c.args.room.now (omega arith) there.few whole; few = there.few }

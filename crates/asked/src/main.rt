@@ -2,8 +2,8 @@
 // The questions are case 8 of document 01, chains that are easy to pick wrongly, and one question for each refusal.
 #![tactic(auto)]
 
-use libc::STDOUT_FILENO;
 use rights::{Header, Layer, Office};
+use std::io;
 
 // 0→1 TT, 0→3 TF, 1→2 TT, 2→4 TT, 3→2 TF: map A of document 01.
 const A: [u8; 25] = [
@@ -50,27 +50,27 @@ const UNSOUND: [u8; 9] = [
 
 const EMPTY: [u8; 49] = [0u8; 49];
 
-fn print(x: u8) {
-    io::print_decimal(STDOUT_FILENO, x as u64);
+fn print(rt: &impl Print, x: u8) -> io::Result<()> {
+    print!(rt; "{x}")
 }
 
 // A byte after another.
-fn print_next(x: u8) {
-    io::write_all(STDOUT_FILENO, b",");
-    print(x);
+fn print_next(rt: &impl Print, x: u8) -> io::Result<()> {
+    print!(rt; ",")?;
+    print(rt, x)
 }
 
-fn print_chain(chain: &[u8; 6]) {
-    print(chain[0]);
-    print_next(chain[1]);
-    print_next(chain[2]);
-    print_next(chain[3]);
-    print_next(chain[4]);
-    print_next(chain[5]);
+fn print_chain(rt: &impl Print, chain: &[u8; 6]) -> io::Result<()> {
+    print(rt, chain[0])?;
+    print_next(rt, chain[1])?;
+    print_next(rt, chain[2])?;
+    print_next(rt, chain[3])?;
+    print_next(rt, chain[4])?;
+    print_next(rt, chain[5])
 }
 
 // A question to a register of n offices whose SOA is 0. No office here is 9, so a byte that stays is seen to stay.
-fn ask(cells: &[u8], n: u16, office: u16, perm: u8) {
+fn ask(rt: &impl Print, cells: &[u8], n: u16, office: u16, perm: u8) -> io::Result<()> {
     let header = Header {
         n,
         soa: Office(0),
@@ -78,42 +78,42 @@ fn ask(cells: &[u8], n: u16, office: u16, perm: u8) {
     };
     let mut chain = [9u8; 6];
     let held = questions::holding(cells, header, Office(office), perm, &mut chain);
-    io::write_all(STDOUT_FILENO, b"answer=");
-    print(held.answer);
-    io::write_all(STDOUT_FILENO, b" offices=");
-    print(held.offices);
-    io::write_all(STDOUT_FILENO, b" chain=");
-    print_chain(&chain);
-    io::write_all(STDOUT_FILENO, b"\n");
+    print!(rt; "answer=")?;
+    print(rt, held.answer)?;
+    print!(rt; " offices=")?;
+    print(rt, held.offices)?;
+    print!(rt; " chain=")?;
+    print_chain(rt, &chain)?;
+    println!(rt; "")
 }
 
 // SOA is its own chain for every permission.
-fn ask_soa(cells: &[u8], n: u16) {
-    ask(cells, n, 0, 8);
-    ask(cells, n, 0, 4);
-    ask(cells, n, 0, 2);
-    ask(cells, n, 0, 1);
+fn ask_soa(rt: &impl Print, cells: &[u8], n: u16) -> io::Result<()> {
+    ask(rt, cells, n, 0, 8)?;
+    ask(rt, cells, n, 0, 4)?;
+    ask(rt, cells, n, 0, 2)?;
+    ask(rt, cells, n, 0, 1)
 }
 
 // One question for each refusal, in their order.
-fn ask_refused() {
-    ask(&A, 1, 4, 4);
-    ask(&A, 4, 4, 4);
-    ask(&UNSOUND, 3, 2, 8);
-    ask(&A, 5, 4, 3);
-    ask(&A, 5, 5, 4);
-    ask(&EMPTY, 7, 0, 4);
-    ask(&A, 5, 3, 2);
+fn ask_refused(rt: &impl Print) -> io::Result<()> {
+    ask(rt, &A, 1, 4, 4)?;
+    ask(rt, &A, 4, 4, 4)?;
+    ask(rt, &UNSOUND, 3, 2, 8)?;
+    ask(rt, &A, 5, 4, 3)?;
+    ask(rt, &A, 5, 5, 4)?;
+    ask(rt, &EMPTY, 7, 0, 4)?;
+    ask(rt, &A, 5, 3, 2)
 }
 
-fn main() {
-    ask(&A, 5, 4, 4);
-    ask(&A, 5, 0, 8);
-    ask(&A, 5, 3, 2);
-    ask(&LEFT, 5, 4, 4);
-    ask(&CROSSED, 6, 5, 8);
-    ask(&WEAK, 4, 3, 1);
-    ask_soa(&A, 5);
-    ask_soa(&EMPTY[0..9], 3);
-    ask_refused();
+fn main(rt: HostRuntime) -> io::Result<()> {
+    ask(&rt, &A, 5, 4, 4)?;
+    ask(&rt, &A, 5, 0, 8)?;
+    ask(&rt, &A, 5, 3, 2)?;
+    ask(&rt, &LEFT, 5, 4, 4)?;
+    ask(&rt, &CROSSED, 6, 5, 8)?;
+    ask(&rt, &WEAK, 4, 3, 1)?;
+    ask_soa(&rt, &A, 5)?;
+    ask_soa(&rt, &EMPTY[0..9], 3)?;
+    ask_refused(&rt)
 }

@@ -2,7 +2,7 @@
 // and writes what the reader answers and the whole buffer it was lent. The whole text comes first.
 #![tactic(auto)]
 
-use libc::STDOUT_FILENO;
+use std::io;
 
 // n=5, SOA 0, layer 7; 0→1 TT, 0→3 TF, 1→2 TT, 2→4 TT, 3→2 TF: map A of document 01.
 const A: [u8; 121] = *b"n=5\nsoa=0\nlayer=7\n\
@@ -22,41 +22,41 @@ enum Damage {
     Lowered,
 }
 
-fn print(label: &[u8], x: u64) {
-    io::write_all(STDOUT_FILENO, label);
-    io::print_decimal(STDOUT_FILENO, x);
+fn print(rt: &impl Print, label: &str, x: u64) -> io::Result<()> {
+    print!(rt; "{label}{x}")
 }
 
-fn print_first(cell: u8) {
-    print(b" cells=", cell as u64);
+fn print_first(rt: &impl Print, cell: u8) -> io::Result<()> {
+    print(rt, " cells=", cell as u64)
 }
 
 // A cell after another.
-fn print_next(cell: u8) {
-    print(b",", cell as u64);
+fn print_next(rt: &impl Print, cell: u8) -> io::Result<()> {
+    print(rt, ",", cell as u64)
 }
 
-fn print_next_cells(cells: &[u8]) {
+fn print_next_cells(rt: &impl Print, cells: &[u8]) -> io::Result<()> {
     let mut k = 0;
     while k < cells.len() {
-        print_next(cells[k]);
+        print_next(rt, cells[k])?;
         k += 1;
     }
+    Ok(())
 }
 
 // The buffer is lent without zeros in it, so that a refusal is seen to leave it zero.
-fn show(text: &[u8]) {
+fn show(rt: &impl Print, text: &[u8]) -> io::Result<()> {
     let mut cells = [9u8; 25];
     let read = register_reader::read_register(text, &mut cells);
-    print(b": answer=", read.answer as u64);
-    print(b" at=", read.at as u64);
-    print(b" rest=", read.next as u64);
-    print(b" n=", read.header.n as u64);
-    print(b" soa=", read.header.soa.0 as u64);
-    print(b" layer=", read.header.layer.0 as u64);
-    print_first(cells[0]);
-    print_next_cells(&cells[1..]);
-    io::write_all(STDOUT_FILENO, b"\n");
+    print(rt, ": answer=", read.answer as u64)?;
+    print(rt, " at=", read.at as u64)?;
+    print(rt, " rest=", read.next as u64)?;
+    print(rt, " n=", read.header.n as u64)?;
+    print(rt, " soa=", read.header.soa.0 as u64)?;
+    print(rt, " layer=", read.header.layer.0 as u64)?;
+    print_first(rt, cells[0])?;
+    print_next_cells(rt, &cells[1..])?;
+    println!(rt; "")
 }
 
 // Past the end it is 0: the longest of the damaged texts decides the room, and the others leave the end of it unread.
@@ -136,42 +136,43 @@ fn write_damaged(whole: &[u8], damage: Damage, place: usize, text: &mut [u8]) {
     }
 }
 
-fn show_damaged(whole: &[u8], damage: Damage, place: usize) {
+fn show_damaged(rt: &impl Print, whole: &[u8], damage: Damage, place: usize) -> io::Result<()> {
     let mut text = [0u8; 122];
     write_damaged(whole, damage, place, &mut text);
     match damage {
         Damage::Removed => {
-            print(b"removed ", place as u64);
-            show(&text[0..120]);
+            print(rt, "removed ", place as u64)?;
+            show(rt, &text[0..120])
         }
         Damage::Doubled => {
-            print(b"doubled ", place as u64);
-            show(&text[0..122]);
+            print(rt, "doubled ", place as u64)?;
+            show(rt, &text[0..122])
         }
         Damage::Raised => {
-            print(b"raised ", place as u64);
-            show(&text[0..121]);
+            print(rt, "raised ", place as u64)?;
+            show(rt, &text[0..121])
         }
         Damage::Lowered => {
-            print(b"lowered ", place as u64);
-            show(&text[0..121]);
+            print(rt, "lowered ", place as u64)?;
+            show(rt, &text[0..121])
         }
     }
 }
 
-fn show_each(whole: &[u8], damage: Damage) {
+fn show_each(rt: &impl Print, whole: &[u8], damage: Damage) -> io::Result<()> {
     let mut place = 0;
     while place < whole.len() {
-        show_damaged(whole, damage, place);
+        show_damaged(rt, whole, damage, place)?;
         place += 1;
     }
+    Ok(())
 }
 
-fn main() {
-    io::write_all(STDOUT_FILENO, b"whole");
-    show(&A);
-    show_each(&A, Damage::Removed);
-    show_each(&A, Damage::Doubled);
-    show_each(&A, Damage::Raised);
-    show_each(&A, Damage::Lowered);
+fn main(rt: HostRuntime) -> io::Result<()> {
+    print!(rt; "whole")?;
+    show(&rt, &A)?;
+    show_each(&rt, &A, Damage::Removed)?;
+    show_each(&rt, &A, Damage::Doubled)?;
+    show_each(&rt, &A, Damage::Raised)?;
+    show_each(&rt, &A, Damage::Lowered)
 }

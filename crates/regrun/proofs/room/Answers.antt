@@ -2,14 +2,10 @@
 use Prim.Native.Nat.{ℕ}
 use mathlib.Core.Path.{◌≡◌, sym}
 use lib.ListN.{length, replicate, length-replicate}
-use Rattle.regrun.proofs.room.Statement.{statement}
-use Rattle.regrun.proofs.room.Tie as tie
+use Rattle.regrun.proofs.room.Goals as goal
 
 long : (k b : ℕ) → k ≡ length (replicate k b)
 long k b = sym (length-replicate k b)
 
-returns : tie.Need-returns
+pub returns : goal.returns
 returns c = long 1700000 0
-
-pub room-spec : {M : Type 1} → statement M
-room-spec = tie.close (tie.spec returns)

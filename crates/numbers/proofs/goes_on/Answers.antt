@@ -1,4 +1,4 @@
--- `numbers::goes_on_lem` meets its contract: no digit follows a leading 0, and none leads above 65535. Assumes nothing.
+-- `numbers::goes_on` meets its contract: no digit follows a leading 0, and none leads above 65535. Assumes nothing.
 use native.Mathlib.Omega.{arith}
 use mathlib.Core.Path.{sym, ◌∙◌}
 use Rattle.numbers.proofs.Reading.{is_a_digit, not_with, not_behind_zero, not_above}

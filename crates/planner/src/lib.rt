@@ -22,6 +22,7 @@ use register_reader::RegisterRead;
 use rights::{Command, Entry, Header, Office, Ran};
 
 // One command: the answer, the tally, and the register as the command leaves it.
+#[unsafe(no_mangle)]
 pub extern "C" fn rights_command(cells: &mut [u8], header: Header, command: Command) -> Outcome
     ensures { Answers (outcome header cells.old command) result cells.new }
 {
@@ -29,6 +30,7 @@ pub extern "C" fn rights_command(cells: &mut [u8], header: Header, command: Comm
 }
 
 // A run of commands: the answer, the tally, the register as the run leaves it, and each entry with its answer.
+#[unsafe(no_mangle)]
 pub extern "C" fn rights_run(cells: &mut [u8], header: Header, entries: &mut [Entry]) -> Ran
     ensures { RanAs (run_outcome header cells.old entries.old) result cells.new entries.new }
 {
@@ -36,6 +38,7 @@ pub extern "C" fn rights_run(cells: &mut [u8], header: Header, entries: &mut [En
 }
 
 // The holding question: the answer and the chain.
+#[unsafe(no_mangle)]
 pub extern "C" fn rights_holding(
     cells: &[u8],
     header: Header,
@@ -51,6 +54,7 @@ pub extern "C" fn rights_holding(
 }
 
 // A register text: what was read, and where the rest starts.
+#[unsafe(no_mangle)]
 pub extern "C" fn rights_read_register(text: &[u8], cells: &mut [u8]) -> RegisterRead
     ensures { RegisterTold (register_read text.now cells.old) result cells.new }
 {
@@ -58,6 +62,7 @@ pub extern "C" fn rights_read_register(text: &[u8], cells: &mut [u8]) -> Registe
 }
 
 // A command text: what was read, and where the rest starts.
+#[unsafe(no_mangle)]
 pub extern "C" fn rights_read_command(text: &[u8]) -> CommandRead
     ensures { result ≡ command_told text.now }
 {
@@ -65,6 +70,7 @@ pub extern "C" fn rights_read_command(text: &[u8]) -> CommandRead
 }
 
 // The header of a register's text.
+#[unsafe(no_mangle)]
 pub extern "C" fn rights_write_header(header: Header, room: &mut [u8]) -> Written
     ensures { Told (header_written header room.old) result room.new }
 {
@@ -72,6 +78,7 @@ pub extern "C" fn rights_write_header(header: Header, room: &mut [u8]) -> Writte
 }
 
 // The records of one office, as grantor.
+#[unsafe(no_mangle)]
 pub extern "C" fn rights_write_row(
     cells: &[u8],
     header: Header,
@@ -84,6 +91,7 @@ pub extern "C" fn rights_write_row(
 }
 
 // The line behind the last row.
+#[unsafe(no_mangle)]
 pub extern "C" fn rights_write_end(room: &mut [u8]) -> Written
     ensures { Told (end_written room.old) result room.new }
 {

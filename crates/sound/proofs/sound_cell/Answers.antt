@@ -16,9 +16,10 @@ returns-then-c-gt15 c = rw (← c.cell-c.ensures, lt-leb _ _ c.if-c-gt15.true)
 pub returns-then-barred : goal.returns-then-barred
 unfolding sound_cell
 returns-then-barred c =
+    let four_bits = le-leb _ _ c.if-c-gt15.false in
     rw (
       ← c.cell-c.ensures,
-      le-leb _ _ c.if-c-gt15.false,
+      four_bits,
       sym c.barred.ensures ∙ c.if-barred.true,
       ne_eqb _ _ c.if-c-eq0.false,
     )

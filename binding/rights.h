@@ -1,6 +1,6 @@
 /* The rights register of document 01, for callers in C11 and C++11 on x86-64 Linux.
  *
- * Link with target/staticlib/libplanner.a, which `rt staticlib planner` makes. What each function promises is proved for every
+ * Link with target/staticlib/libplanner.a, which `tools/build` makes. What each function promises is proved for every
  * header, command, register and text, and for buffers of every length: whatever is out of range is refused by its number.
  *
  * What the caller owes, because no callee can check it:

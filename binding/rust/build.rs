@@ -10,7 +10,7 @@ fn main() {
     println!("cargo:rerun-if-changed={}", archive.display());
     if !archive.is_file() {
         eprintln!(
-            "{} is not there: `rt staticlib planner`, at the repository's root, makes it",
+            "{} is not there: `tools/build`, at the repository's root, makes it",
             archive.display()
         );
         process::exit(1);

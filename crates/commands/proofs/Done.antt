@@ -7,7 +7,7 @@ use lib.ListN.{length, take}
 use borrow.Author.Tests.{eq-eqb, ne_eqb}
 use Rattle.rights.specs.declared.Header.{Header}
 use Rattle.rights.specs.declared.Command.{Command}
-use Rattle.rights.specs.Sound.{headed, whole}
+use Rattle.rights.specs.Sound.{whole}
 use Rattle.rights.specs.Command.{refusal, carried_out, refused, done, outcome}
 use Rattle.theory.proofs.Tests.{both}
 use Rattle.theory.proofs.Ready.{Ready, whole_length}

@@ -4,8 +4,6 @@ use mathlib.Core.Path.{◌≡◌, refl, ap, ◌∙◌}
 use mathlib.Core.List.{List, [], ◌∷◌, ◌++◌}
 use native.Mathlib.Omega.{arith}
 use lib.ListN.{length, drop, drop_of_length-le}
-use denote.Enum.Declared.{tag_of}
-use types.Run.{OneOf, miss}
 use Rattle.wording.specs.Word.{lf, Choice, Kind, decimal, n_line, soa_line, layer_line, act_line, by_line, to_line, perm_line, key, form, end_text}
 use Rattle.wording.specs.Line.{After, after, otherwise, after_word, chosen, value_of, behind_key, line_of}
 use Rattle.wording.specs.Lines.{offset}
@@ -16,7 +14,6 @@ use Rattle.numbers.specs.Line.{line_read}
 use Rattle.lines.specs.Read.{kind_of, word_read, choice_read, line_at, end_at}
 use Rattle.lines.specs.declared.LineKind.{LineKind}
 use Rattle.lines.specs.declared.LineKind.TheVariants.{N, Soa, Layer, Act, By, To, Perm}
-use Rattle.lines.specs.contracts.LineKind.{the_type}
 use Rattle.lines.specs.declared.WordRead.TheVariants.{Next, Other}
 use Rattle.numbers.specs.declared.LineRead.{LineRead}
 use Rattle.numbers.specs.declared.LineRead.TheVariants.{Bad}

@@ -15,7 +15,7 @@ use Rattle.rights.specs.Cell.{has}
 use Rattle.rights.specs.Register.{cell, soa_of}
 use Rattle.rights.specs.Level.{levels, level_in}
 use Rattle.rights.specs.Chain.{Holds}
-use Rattle.rights.specs.Sound.{headed, whole, sound, unless}
+use Rattle.rights.specs.Sound.{whole, sound, unless}
 use Rattle.rights.specs.Restriction.{restricted, empty_where, is_cell, row_to, emptied}
 use Rattle.rights.specs.Deletion.{granted_cell, granted, handed_cell, handed_over, row_settled, column_step, wld, wgd, sld, sgd}
 use Rattle.rights.specs.Command.{by_of, to_of, is_grant, may_grant, grant_refusal, refusal, carried_out, refused, done, outcome}

@@ -12,7 +12,7 @@ use Rattle.rights.specs.declared.Header.{Header}
 use Rattle.rights.specs.Permission.{is_code, decoded}
 use Rattle.rights.specs.Chain.{Holds}
 use Rattle.rights.specs.Level.{holds}
-use Rattle.rights.specs.Sound.{first_of, unless, register_refusal}
+use Rattle.rights.specs.Sound.{first_of, unless}
 use Rattle.rights.specs.Question.{picked_chain, question_form_refusal, question_refusal, Answer, shown, not_shown, answered}
 use Rattle.theory.proofs.Tests.{clash}
 use Rattle.theory.proofs.Ready.{Ready, headed_inside, ready_register}

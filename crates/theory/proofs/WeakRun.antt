@@ -15,7 +15,7 @@ use Rattle.rights.specs.Cell.{restrict}
 use Rattle.rights.specs.Register.{cell}
 use Rattle.rights.specs.Chain.{Holds, HoldsUnused}
 use Rattle.rights.specs.Level.{holds}
-use Rattle.rights.specs.Sound.{headed, whole, sound, barred, first_of, unless}
+use Rattle.rights.specs.Sound.{barred, first_of, unless}
 use Rattle.rights.specs.Restriction.{restricted, empty_where, is_cell, sweep, emptied}
 use Rattle.rights.specs.Deletion.{wgd}
 use Rattle.rights.specs.Command.{by_of, to_of, is_grant, well_formed, form_refusal, deletion_refusal, refusal, carried_out, outcome}

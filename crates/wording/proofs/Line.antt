@@ -9,7 +9,7 @@ use Rattle.theory.proofs.Tests.{left_of, right_of}
 use Rattle.wording.proofs.Truth.{never}
 use Rattle.wording.proofs.Number.{number_read, number-written}
 use Rattle.wording.specs.Word.{lf, Choice, Kind, n_line, soa_line, layer_line, act_line, by_line, to_line, perm_line, key, Form, decimal, one_of, form, acts, perms, word_for, worded}
-use Rattle.wording.specs.Line.{After, after, otherwise, after_word, Line, value, number, chosen, value_of, behind_key, line_of, word_of, line_text, fits}
+use Rattle.wording.specs.Line.{After, after, otherwise, after_word, Line, value, chosen, value_of, behind_key, line_of, word_of, line_text, fits}
 
 -- the reader of a word, byte by byte: the byte of the word, and another
 pub after_word-more : (w b : ℕ) (word text : List ℕ) → eqb b w ≡ true → after_word (w ∷ word) (b ∷ text) ≡ after_word word text

@@ -1,5 +1,5 @@
 -- `buffers::copied` meets its contract. The loop's invariant: the bytes passed, and zeros after them. Assumes nothing.
-use Prim.Native.Nat.{◌≤◌, ◌<◌, ◌-◌, min}
+use Prim.Native.Nat.{◌<◌, min}
 use native.Mathlib.Omega.{arith}
 use mathlib.Core.Path.{◌≡◌, refl, ap, ◌∙◌}
 use lib.ListN.{length}

@@ -1,10 +1,9 @@
 -- `columns::restrict_each_marked` meets its contract: before each turn the rows before i are restricted. Assumes nothing.
-use Prim.Native.Nat.{◌-◌}
 use native.Mathlib.Omega.{arith}
 use Rattle.rights.specs.Level.{level_in}
 use Rattle.rights.specs.Restriction.{columns_to}
 use Rattle.columns.specs.Marked.{is_marked, where_marked}
-use Rattle.rows.proofs.Rows.{RowsDone, rows_start, rows_whole, rows_next, rows_over}
+use Rattle.rows.proofs.Rows.{rows_start, rows_whole, rows_next, rows_over}
 use borrow.Author.Rules.{rules}
 use Rattle.columns.proofs.restrict_each_marked.Goals as goal
 

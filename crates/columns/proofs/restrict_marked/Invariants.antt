@@ -1,11 +1,8 @@
 -- `columns::restrict_marked` meets its contract: before each turn the marked cells before y are restricted. Assumes nothing.
 use Prim.Native.Nat.{◌-◌}
-use mathlib.Core.Path.{ap₂, ◌∙◌}
 use lib.ListN.{length}
-use native.Mathlib.Omega.{arith}
-use Rattle.rights.specs.Cell.{restrict}
-use Rattle.columns.specs.Marked.{is_marked, where_marked, marked_cell, marked_to_level}
-use Rattle.rows.proofs.Table.{Walk, walk_start, walk_here, walk_next, walk_over}
+use Rattle.columns.specs.Marked.{marked_cell}
+use Rattle.rows.proofs.Table.{Walk}
 use Rattle.columns.proofs.restrict_marked.Given as goal
 
 abbrev pub invariant-loop-y : goal.invariant-loop-y

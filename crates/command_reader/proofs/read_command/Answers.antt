@@ -1,12 +1,10 @@
 -- `command_reader::read_command` meets its contract: what has been read so far, line by line. Assumes nothing.
 use native.Mathlib.Omega.{arith}
 use mathlib.Core.Path.{sym, ◌∙◌}
-use mathlib.Core.List.{[], ◌∷◌}
-use Rattle.wording.specs.Word.{layer_line, by_line, to_line, perm_line}
-use Rattle.wording.specs.Lines.{command_lines, command_of}
+use Rattle.wording.specs.Lines.{command_of}
 use Rattle.lines.specs.Read.{kind_of}
 use Rattle.lines.proofs.Found.{line_found, act-small, perm-small}
-use Rattle.lines.proofs.SoFar.{LinesSoFar, lines_more}
+use Rattle.lines.proofs.SoFar.{lines_more}
 use Rattle.command_reader.proofs.Command.{command_start, command-bad, command-got}
 use Rattle.command_reader.proofs.read_command.Goals as goal
 

@@ -1,7 +1,6 @@
 -- `cuts::hand_row` meets its contract: before each turn the columns before k are handed over. Assumes nothing.
-use Prim.Native.Nat.{◌-◌}
 use native.Mathlib.Omega.{arith}
-use Rattle.cuts.proofs.Handed.{HandedTo, hand_start, hand_whole, hand_next, hand_done}
+use Rattle.cuts.proofs.Handed.{hand_start, hand_whole, hand_next, hand_done}
 use Rattle.cuts.proofs.hand_row.Goals as goal
 
 pub loop-k-init : goal.loop-k-init

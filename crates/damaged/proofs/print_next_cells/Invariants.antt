@@ -1,7 +1,6 @@
 -- `damaged::print_next_cells` is safe. The loop's invariant: `k` is at most the number of cells. The measure is what is left of them.
 -- Assumes nothing.
 use Prim.Native.Nat.{◌≤◌, ◌-◌}
-use native.Mathlib.Omega.{arith}
 use lib.ListN.{length}
 use Rattle.damaged.proofs.print_next_cells.Given as goal
 

@@ -1,7 +1,6 @@
 -- `damaged::show_each` is safe. The loop's invariant: `place` is at most the length of the whole text. The measure is what is left of
 -- the length. Assumes nothing.
 use Prim.Native.Nat.{◌≤◌, ◌-◌}
-use native.Mathlib.Omega.{arith}
 use lib.ListN.{length}
 use Rattle.damaged.proofs.show_each.Given as goal
 

@@ -1,9 +1,8 @@
 -- `damaged::write_damaged` is safe. The loop's invariant: the text keeps its length, and `at` is at most that. The measure is what is
 -- left of the length. Assumes nothing.
 use Prim.Native.Nat.{◌≤◌, ◌-◌}
-use native.Mathlib.Omega.{arith}
-use mathlib.Core.Path.{◌≡◌, refl, ◌∙◌}
-use lib.ListN.{length, length-set}
+use mathlib.Core.Path.{◌≡◌}
+use lib.ListN.{length}
 use Rattle.damaged.proofs.write_damaged.Given as goal
 
 abbrev pub invariant-loop-at : goal.invariant-loop-at

@@ -2,7 +2,6 @@
 use native.Mathlib.Omega.{arith}
 use mathlib.Core.List.{◌++◌, append-nil}
 use mathlib.Core.Path.{◌≡◌, sym, ◌∙◌}
-use borrow.Author.Tests.{not-true, not-false}
 use Rattle.rights.specs.Sound.{unless}
 use Rattle.rights.specs.declared.Header.{Header}
 use Rattle.wording.specs.Word.{bytes, key, form}

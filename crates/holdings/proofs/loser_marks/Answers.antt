@@ -1,9 +1,7 @@
 -- `holdings::loser_marks` meets its contract. The loop's invariant: the marks of the offices passed, and 0 after them. Assumes nothing.
-use Prim.Native.Nat.{◌≤◌, ◌<◌, ◌-◌}
+use Prim.Native.Nat.{◌<◌}
 use native.Mathlib.Omega.{arith}
 use mathlib.Core.Path.{◌≡◌}
-use Rattle.rights.specs.Below.{table}
-use Rattle.levels.specs.Padded.{padded}
 use Rattle.levels.proofs.Padded.{padded-none, padded-more}
 use Rattle.holdings.specs.Loser.{mark_by}
 use Rattle.holdings.proofs.loser_marks.Goals as goal

@@ -1,10 +1,8 @@
 -- `holdings::loser_marks` meets its contract. The loop's invariant: the marks of the offices passed, and 0 after them. Assumes nothing.
-use Prim.Native.Nat.{◌≤◌, ◌<◌, ◌-◌}
-use native.Mathlib.Omega.{arith}
+use Prim.Native.Nat.{◌≤◌, ◌-◌}
 use mathlib.Core.Path.{◌≡◌}
 use Rattle.rights.specs.Below.{table}
 use Rattle.levels.specs.Padded.{padded}
-use Rattle.levels.proofs.Padded.{padded-none, padded-more}
 use Rattle.holdings.specs.Loser.{mark_by}
 use Rattle.holdings.proofs.loser_marks.Given as goal
 

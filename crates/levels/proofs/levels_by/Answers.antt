@@ -1,10 +1,8 @@
 -- `levels::levels_by` meets its contract. The loop's invariant: the levels are those of the offices passed, and 0 after them. Assumes nothing.
-use Prim.Native.Nat.{◌≤◌, ◌<◌, ◌-◌}
+use Prim.Native.Nat.{◌<◌}
 use native.Mathlib.Omega.{arith}
 use mathlib.Core.Path.{◌≡◌}
-use Rattle.rights.specs.Below.{table}
 use Rattle.rights.specs.Level.{is_in, level_by}
-use Rattle.levels.specs.Padded.{padded}
 use Rattle.levels.proofs.Padded.{padded-none, padded-more}
 use Rattle.levels.proofs.levels_by.Goals as goal
 

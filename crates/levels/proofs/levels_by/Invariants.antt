@@ -1,11 +1,9 @@
 -- `levels::levels_by` meets its contract. The loop's invariant: the levels are those of the offices passed, and 0 after them. Assumes nothing.
-use Prim.Native.Nat.{◌≤◌, ◌<◌, ◌-◌}
-use native.Mathlib.Omega.{arith}
+use Prim.Native.Nat.{◌≤◌, ◌-◌}
 use mathlib.Core.Path.{◌≡◌}
 use Rattle.rights.specs.Below.{table}
-use Rattle.rights.specs.Level.{is_in, level_by}
+use Rattle.rights.specs.Level.{level_by}
 use Rattle.levels.specs.Padded.{padded}
-use Rattle.levels.proofs.Padded.{padded-none, padded-more}
 use Rattle.levels.proofs.levels_by.Given as goal
 
 abbrev pub invariant-loop-j : goal.invariant-loop-j

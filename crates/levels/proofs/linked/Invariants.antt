@@ -1,13 +1,10 @@
 -- `levels::linked` meets its contract. The loop's invariant: no grantor passed has a link that counts. Assumes nothing.
-use Prim.Native.Nat.{◌≤◌, ◌<◌, ◌-◌}
-use native.Mathlib.Omega.{arith}
-use mathlib.Core.Path.{◌≡◌, refl, sym, ◌∙◌}
+use Prim.Native.Nat.{◌≤◌, ◌-◌}
+use mathlib.Core.Path.{◌≡◌}
 use mathlib.Core.Bool.{false}
 use Rattle.rights.specs.Below.{any_below}
 use Rattle.rights.specs.Permission.{decoded}
-use Rattle.rights.specs.Level.{linked, linked_by}
-use Rattle.theory.proofs.Below.{any_from}
-use Rattle.levels.proofs.Loops.{none_more}
+use Rattle.rights.specs.Level.{linked_by}
 use Rattle.levels.proofs.linked.Given as goal
 
 abbrev pub invariant-loop-x : goal.invariant-loop-x

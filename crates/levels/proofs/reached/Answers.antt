@@ -1,8 +1,6 @@
 -- `levels::reached` meets its contract. The loop's invariant: the marks are those after d rounds. Assumes nothing.
-use Prim.Native.Nat.{◌≤◌, ◌-◌}
 use native.Mathlib.Omega.{arith}
 use mathlib.Core.Path.{◌≡◌, sym, ◌∙◌}
-use Rattle.rights.specs.Permission.{decoded}
 use Rattle.levels.proofs.Rounds.{marks_after, marks_first, marks_next, marks_rest}
 use Rattle.levels.proofs.reached.Goals as goal
 

@@ -1,9 +1,8 @@
 -- `levels::reached` meets its contract. The loop's invariant: the marks are those after d rounds. Assumes nothing.
 use Prim.Native.Nat.{◌≤◌, ◌-◌}
-use native.Mathlib.Omega.{arith}
-use mathlib.Core.Path.{◌≡◌, sym, ◌∙◌}
+use mathlib.Core.Path.{◌≡◌}
 use Rattle.rights.specs.Permission.{decoded}
-use Rattle.levels.proofs.Rounds.{marks_after, marks_first, marks_next, marks_rest}
+use Rattle.levels.proofs.Rounds.{marks_after}
 use Rattle.levels.proofs.reached.Given as goal
 
 abbrev pub invariant-loop-d : goal.invariant-loop-d

@@ -1,12 +1,8 @@
 -- `levels::round` meets its contract. The loop's invariant: the marks are those of the offices passed, and none after them. Assumes nothing.
-use Prim.Native.Nat.{◌≤◌, ◌<◌, ◌-◌}
+use Prim.Native.Nat.{◌<◌}
 use native.Mathlib.Omega.{arith}
 use mathlib.Core.Path.{◌≡◌}
 use mathlib.Core.Bool.{false}
-use Rattle.rights.specs.Level.{marked_next, other_than}
-use Rattle.rights.specs.Below.{table}
-use Rattle.rights.specs.Permission.{decoded}
-use Rattle.levels.specs.Padded.{padded}
 use Rattle.levels.proofs.Padded.{padded-none, padded-more}
 use Rattle.levels.proofs.round.Goals as goal
 

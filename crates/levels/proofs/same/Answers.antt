@@ -1,8 +1,6 @@
 -- `levels::same` meets its contract. The loop's invariant: the marks passed are the same. Assumes nothing.
-use Prim.Native.Nat.{◌≤◌, ◌-◌}
 use native.Mathlib.Omega.{arith}
 use mathlib.Core.Path.{◌≡◌, refl, sym}
-use mathlib.Core.Bool.{true}
 use borrow.Author.Tests.{not-true, not-false}
 use Rattle.rights.specs.Below.{all_below}
 use Rattle.rights.specs.Level.{is_in}

@@ -1,13 +1,9 @@
 -- `levels::same` meets its contract. The loop's invariant: the marks passed are the same. Assumes nothing.
 use Prim.Native.Nat.{◌≤◌, ◌-◌}
-use native.Mathlib.Omega.{arith}
-use mathlib.Core.Path.{◌≡◌, refl, sym}
+use mathlib.Core.Path.{◌≡◌}
 use mathlib.Core.Bool.{true}
-use borrow.Author.Tests.{not-true, not-false}
 use Rattle.rights.specs.Below.{all_below}
-use Rattle.rights.specs.Level.{is_in}
-use Rattle.levels.specs.Marks.{same_mark, same_marks}
-use Rattle.levels.proofs.Loops.{all_more, one_fails}
+use Rattle.levels.specs.Marks.{same_mark}
 use Rattle.levels.proofs.same.Given as goal
 
 abbrev pub invariant-loop-k : goal.invariant-loop-k

@@ -1,8 +1,6 @@
 -- `lines::word` meets its contract. The loop's invariant: what is left of the word gives what the whole word gives. Assumes nothing.
-use Prim.Native.Nat.{◌-◌}
 use native.Mathlib.Omega.{arith}
-use lib.ListN.{length}
-use Rattle.lines.proofs.WordSoFar.{WordSoFar, word_start, word_more, word_stop, word_short, word_end}
+use Rattle.lines.proofs.WordSoFar.{word_start, word_more, word_stop, word_short, word_end}
 use Rattle.lines.proofs.word.Goals as goal
 
 pub loop-k-init : goal.loop-k-init

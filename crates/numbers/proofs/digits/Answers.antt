@@ -1,9 +1,6 @@
 -- `numbers::digits` meets its contract: with each division by ten the digits left are one fewer. Assumes nothing.
-use Prim.Native.Nat.{◌+◌, ◌≤◌}
 use native.Mathlib.Omega.{arith}
-use mathlib.Core.Path.{◌≡◌, refl}
-use lib.ListN.{length}
-use Rattle.wording.specs.Line.{numeral}
+use mathlib.Core.Path.{refl}
 use Rattle.wording.proofs.Digits.{one_digit, more-digits, few-digits}
 use borrow.Author.Rules.{rules}
 use Rattle.numbers.proofs.digits.Goals as goal

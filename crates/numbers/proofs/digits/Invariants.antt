@@ -1,10 +1,8 @@
 -- `numbers::digits` meets its contract: with each division by ten the digits left are one fewer. Assumes nothing.
 use Prim.Native.Nat.{◌+◌, ◌≤◌}
-use native.Mathlib.Omega.{arith}
-use mathlib.Core.Path.{◌≡◌, refl}
+use mathlib.Core.Path.{◌≡◌}
 use lib.ListN.{length}
 use Rattle.wording.specs.Line.{numeral}
-use Rattle.wording.proofs.Digits.{one_digit, more-digits, few-digits}
 use Rattle.numbers.proofs.digits.Given as goal
 
 abbrev pub invariant-loop-rest : goal.invariant-loop-rest

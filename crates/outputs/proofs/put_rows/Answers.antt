@@ -1,10 +1,8 @@
 -- `outputs::put_rows` meets its contract: the rows passed stand in the room. Assumes nothing.
-use Prim.Native.Nat.{◌+◌, ◌*◌, ◌-◌, ◌≤◌}
 use native.Mathlib.Omega.{arith}
 use native.Mathlib.Numerals.{add-one}
 use mathlib.Core.Path.{◌≡◌}
-use Rattle.wording.specs.Records.{joined, row_text}
-use Rattle.printing.specs.Put.{Put}
+use Rattle.wording.specs.Records.{joined}
 use Rattle.printing.proofs.Put.{put_none, put_both, put_length}
 use borrow.Author.Rules.{rules}
 use Rattle.outputs.proofs.put_rows.Goals as goal

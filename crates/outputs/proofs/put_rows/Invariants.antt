@@ -1,11 +1,7 @@
 -- `outputs::put_rows` meets its contract: the rows passed stand in the room. Assumes nothing.
 use Prim.Native.Nat.{◌+◌, ◌*◌, ◌-◌, ◌≤◌}
-use native.Mathlib.Omega.{arith}
-use native.Mathlib.Numerals.{add-one}
-use mathlib.Core.Path.{◌≡◌}
 use Rattle.wording.specs.Records.{joined, row_text}
 use Rattle.printing.specs.Put.{Put}
-use Rattle.printing.proofs.Put.{put_none, put_both, put_length}
 use Rattle.outputs.proofs.put_rows.Given as goal
 
 abbrev pub invariant-loop-row : goal.invariant-loop-row

@@ -1,9 +1,6 @@
 -- `printing::put_bytes` meets its contract: the bytes passed stand in the room. Assumes nothing.
-use Prim.Native.Nat.{◌-◌, ◌≤◌}
 use native.Mathlib.Omega.{arith}
-use lib.ListN.{length, take}
 use lib.Seq.{length-take-le}
-use Rattle.printing.specs.Put.{Put}
 use Rattle.printing.proofs.Put.{put_none, put_next, put_all, put_length}
 use borrow.Author.Rules.{rules}
 use Rattle.printing.proofs.put_bytes.Goals as goal

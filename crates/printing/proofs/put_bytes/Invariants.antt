@@ -1,10 +1,7 @@
 -- `printing::put_bytes` meets its contract: the bytes passed stand in the room. Assumes nothing.
 use Prim.Native.Nat.{◌-◌, ◌≤◌}
-use native.Mathlib.Omega.{arith}
 use lib.ListN.{length, take}
-use lib.Seq.{length-take-le}
 use Rattle.printing.specs.Put.{Put}
-use Rattle.printing.proofs.Put.{put_none, put_next, put_all, put_length}
 use Rattle.printing.proofs.put_bytes.Given as goal
 
 abbrev pub invariant-loop-k : goal.invariant-loop-k

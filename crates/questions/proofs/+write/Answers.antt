@@ -1,11 +1,5 @@
 -- `questions::write` meets its contract: it calls itself with one link fewer. Assumes nothing.
-use Prim.Native.Nat.{ℕ, ◌+◌, ◌<◌}
 use native.Mathlib.Omega.{arith}
-use mathlib.Core.Path.{◌≡◌}
-use mathlib.Core.List.{List, ◌++◌}
-use lib.ListN.{drop}
-use Rattle.rights.specs.Permission.{decoded}
-use Rattle.rights.specs.Question.{last_of, smallest}
 use Rattle.questions.proofs.First.{first_most}
 use Rattle.questions.proofs.Written.{written-first, written_next}
 use Rattle.questions.proofs.+write.Goals as goal

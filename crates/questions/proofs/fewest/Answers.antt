@@ -1,15 +1,12 @@
 -- `questions::fewest` meets its contract. The loop's invariant: near has the offices so many links away from the set, the next
 -- link is read as it has to be, and SOA is not fewer links away. The measure is what is left of n + 1. Assumes nothing.
-use Prim.Native.Nat.{ℕ, suc, ◌+◌, ◌≤◌, ◌<◌, ◌-◌}
+use Prim.Native.Nat.{suc}
 use native.Mathlib.Numerals.{add-one}
 use native.Mathlib.Omega.{arith}
 use mathlib.Core.Path.{◌≡◌, refl, sym, ◌∙◌}
-use mathlib.Core.Bool.{false}
 use borrow.Author.Count.{below_none, below_more}
-use Rattle.rights.specs.Permission.{decoded}
-use Rattle.rights.specs.Register.{soa_of}
 use Rattle.rights.specs.Level.{is_in}
-use Rattle.rights.specs.Question.{links_away, soa_away}
+use Rattle.rights.specs.Question.{links_away}
 use Rattle.questions.proofs.First.{first_found, first_absent}
 use Rattle.questions.proofs.Sets.{reading_at, away_step}
 use Rattle.questions.proofs.fewest.Goals as goal

@@ -1,12 +1,8 @@
 -- `questions::first_into` meets its contract. The loop's invariant: there is no such link to an office before y. The measure is
 -- what is left of n. Assumes nothing.
-use Prim.Native.Nat.{ℕ, ◌≤◌, ◌<◌, ◌-◌}
 use native.Mathlib.Omega.{arith}
-use mathlib.Core.Path.{◌≡◌, refl, sym, ◌∙◌}
-use mathlib.Core.Bool.{false}
+use mathlib.Core.Path.{refl, sym, ◌∙◌}
 use borrow.Author.Count.{below_none, below_more}
-use Rattle.rights.specs.Permission.{decoded}
-use Rattle.rights.specs.Question.{link_into}
 use Rattle.questions.proofs.First.{first_found, first_absent}
 use Rattle.questions.proofs.first_into.Goals as goal
 

@@ -1,6 +1,6 @@
 -- `questions::form_refusal` meets its contract, by the tests on the way to each return. Assumes nothing.
 use mathlib.Core.Path.{sym, ◌∙◌}
-use borrow.Author.Tests.{lt-ltb, le-ltb, le-leb, lt-leb, not-true, not-false}
+use borrow.Author.Tests.{lt-ltb, le-ltb, le-leb, lt-leb}
 use Rattle.rights.specs.Sound.{first_of, unless}
 use Rattle.rights.specs.Question.{question_form_refusal}
 use Rattle.questions.proofs.form_refusal.Goals as goal

@@ -1,14 +1,10 @@
 -- `questions::nearer` meets its contract. The loop's invariant: the marks before x are those of the offices with a link into the
 -- set, and there are no others. The measure is what is left of n. Assumes nothing.
-use Prim.Native.Nat.{◌≤◌, ◌-◌}
 use native.Mathlib.Omega.{arith}
 use mathlib.Core.Path.{◌≡◌, refl, ◌∙◌}
 use mathlib.Core.Bool.{false}
-use Rattle.rights.specs.Below.{table}
-use Rattle.rights.specs.Permission.{decoded}
-use Rattle.levels.specs.Padded.{padded}
 use Rattle.levels.proofs.Padded.{padded-none, padded-more}
-use Rattle.questions.proofs.Sets.{leads, nearer_leads, leads_first}
+use Rattle.questions.proofs.Sets.{nearer_leads, leads_first}
 use Rattle.questions.proofs.nearer.Goals as goal
 
 pub loop-x-init : goal.loop-x-init

@@ -1,10 +1,8 @@
 -- `records::scan` meets its contract. The loop's invariant: what is left to read gives what the whole text gives. Assumes nothing.
-use Prim.Native.Nat.{◌-◌}
 use native.Mathlib.Omega.{arith}
 use mathlib.Core.Path.{sym, ◌∙◌}
-use lib.ListN.{length}
-use Rattle.records.specs.Read.{text_record, record_at}
-use Rattle.records.proofs.SoFar.{ScanSoFar, scan_start, scan_end, scan_bad, scan_more}
+use Rattle.records.specs.Read.{record_at}
+use Rattle.records.proofs.SoFar.{scan_start, scan_end, scan_bad, scan_more}
 use Rattle.records.proofs.scan.Goals as goal
 
 pub loop-next-init : goal.loop-next-init

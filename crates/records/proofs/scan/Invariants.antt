@@ -1,10 +1,8 @@
 -- `records::scan` meets its contract. The loop's invariant: what is left to read gives what the whole text gives. Assumes nothing.
 use Prim.Native.Nat.{◌-◌}
-use native.Mathlib.Omega.{arith}
-use mathlib.Core.Path.{sym, ◌∙◌}
 use lib.ListN.{length}
-use Rattle.records.specs.Read.{text_record, record_at}
-use Rattle.records.proofs.SoFar.{ScanSoFar, scan_start, scan_end, scan_bad, scan_more}
+use Rattle.records.specs.Read.{text_record}
+use Rattle.records.proofs.SoFar.{ScanSoFar}
 use Rattle.records.proofs.scan.Given as goal
 
 abbrev pub invariant-loop-next : goal.invariant-loop-next

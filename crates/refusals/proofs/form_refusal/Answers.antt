@@ -1,6 +1,6 @@
 -- `refusals::form_refusal` meets its contract. Assumes nothing.
 use mathlib.Core.Path.{sym, ◌∙◌}
-use borrow.Author.Tests.{eq-eqb, ne_eqb, not-true, not-false}
+use borrow.Author.Tests.{eq-eqb, ne_eqb}
 use Rattle.rights.specs.Sound.{first_of, unless}
 use Rattle.rights.specs.Command.{form_refusal}
 use Rattle.refusals.proofs.form_refusal.Goals as goal

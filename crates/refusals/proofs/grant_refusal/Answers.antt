@@ -1,6 +1,5 @@
 -- `refusals::grant_refusal` meets its contract. Assumes nothing.
 use mathlib.Core.Path.{sym, ◌∙◌}
-use borrow.Author.Tests.{not-true, not-false}
 use native.Mathlib.Omega.{arith}
 use Rattle.rights.specs.Sound.{first_of, unless}
 use Rattle.rights.specs.Command.{grant_refusal}

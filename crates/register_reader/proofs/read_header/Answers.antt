@@ -1,10 +1,8 @@
 -- `register_reader::read_header` meets its contract: what has been read so far, line by line. Assumes nothing.
 use mathlib.Core.Path.{sym, ◌∙◌}
-use mathlib.Core.List.{[], ◌∷◌}
-use Rattle.wording.specs.Word.{soa_line, layer_line}
-use Rattle.wording.specs.Lines.{header_lines, header_of}
+use Rattle.wording.specs.Lines.{header_of}
 use Rattle.lines.specs.Read.{kind_of}
-use Rattle.lines.proofs.SoFar.{LinesSoFar, lines_more}
+use Rattle.lines.proofs.SoFar.{lines_more}
 use Rattle.register_reader.proofs.Header.{header_start, header-bad, header-got}
 use Rattle.register_reader.proofs.read_header.Goals as goal
 

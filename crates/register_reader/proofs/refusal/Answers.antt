@@ -3,7 +3,6 @@ use Prim.Native.Nat.{ℕ, ◌*◌, ◌-◌}
 use native.Mathlib.Omega.{arith}
 use mathlib.Core.Path.{◌≡◌, sym, ap, ◌∙◌}
 use lib.ListN.{take}
-use borrow.Author.Tests.{not-true, not-false}
 use Rattle.rights.specs.Sound.{register_refusal}
 use Rattle.registers.proofs.Place.{product}
 use Rattle.register_reader.proofs.Checks.{refuses_1, refuses_2, refuses_6, refuses_7, refuses_3}

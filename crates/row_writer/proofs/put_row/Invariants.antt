@@ -1,11 +1,7 @@
 -- `row_writer::put_row` meets its contract: the cells passed stand in the room. Assumes nothing.
 use Prim.Native.Nat.{◌-◌, ◌≤◌}
-use native.Mathlib.Omega.{arith}
-use mathlib.Core.Path.{◌≡◌}
 use Rattle.printing.specs.Put.{Put}
-use Rattle.printing.proofs.Put.{put_none, put_both, put_length, room_second}
 use Rattle.row_writer.specs.Row.{row_up_to}
-use Rattle.row_writer.proofs.Row.{row_none, row_more, row_all, row_room}
 use Rattle.row_writer.proofs.put_row.Given as goal
 
 abbrev pub invariant-loop-to : goal.invariant-loop-to

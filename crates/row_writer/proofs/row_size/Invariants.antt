@@ -1,10 +1,8 @@
 -- `row_writer::row_size` meets its contract: the cells passed are measured. Assumes nothing.
 use Prim.Native.Nat.{◌*◌, ◌-◌, ◌≤◌}
-use native.Mathlib.Omega.{arith}
-use mathlib.Core.Path.{◌≡◌, ap, ◌∙◌}
-use lib.ListN.{length, length-append}
-use Rattle.row_writer.specs.Row.{cell_text, row_up_to}
-use Rattle.row_writer.proofs.Row.{row_none, row_more, row_all}
+use mathlib.Core.Path.{◌≡◌}
+use lib.ListN.{length}
+use Rattle.row_writer.specs.Row.{row_up_to}
 use Rattle.row_writer.proofs.row_size.Given as goal
 
 abbrev pub invariant-loop-to : goal.invariant-loop-to

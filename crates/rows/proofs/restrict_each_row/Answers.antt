@@ -1,10 +1,9 @@
 -- `rows::restrict_each_row` meets its contract: before each turn the rows before i are restricted. Assumes nothing.
-use Prim.Native.Nat.{◌-◌}
 use native.Mathlib.Omega.{arith}
 use Rattle.rights.specs.Level.{level_in}
 use Rattle.rights.specs.Restriction.{row_to, rows_to}
 use Rattle.rows.specs.Row.{on_row}
-use Rattle.rows.proofs.Rows.{RowsDone, rows_start, rows_whole, rows_next, rows_over}
+use Rattle.rows.proofs.Rows.{rows_start, rows_whole, rows_next, rows_over}
 use borrow.Author.Rules.{rules}
 use Rattle.rows.proofs.restrict_each_row.Goals as goal
 

@@ -1,10 +1,8 @@
 -- `rows::restrict_row` meets its contract: before each turn the cells before y are restricted. Assumes nothing.
-use Prim.Native.Nat.{◌-◌}
 use mathlib.Core.Path.{ap, ◌∙◌}
-use lib.ListN.{length}
 use native.Mathlib.Omega.{arith}
 use Rattle.rows.specs.Row.{at_level}
-use Rattle.rows.proofs.Table.{each, map_each, Walk, walk_start, walk_here, walk_next, walk_over}
+use Rattle.rows.proofs.Table.{each, map_each, walk_start, walk_here, walk_next, walk_over}
 use Rattle.rows.proofs.restrict_row.Goals as goal
 
 pub loop-y-init : goal.loop-y-init

@@ -1,8 +1,6 @@
 -- `sound::register_refusal` meets its contract: the refusals are tried in their order. Assumes nothing.
-use mathlib.Core.Path.{◌≡◌, sym, ◌∙◌}
+use mathlib.Core.Path.{sym, ◌∙◌}
 use mathlib.Core.Bool.{true, false}
-use borrow.Author.Tests.{not-true, not-false}
-use Rattle.rights.specs.Sound.{headed, whole}
 use Rattle.levels.proofs.Given.{readable-header}
 use Rattle.sound.proofs.Standing.{read, refused_1, refused_2, refused_3}
 use Rattle.sound.proofs.register_refusal.Goals as goal

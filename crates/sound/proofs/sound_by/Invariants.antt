@@ -1,12 +1,8 @@
 -- `sound::sound_by` meets its contract. The loop's invariant: each row passed may stand. Assumes nothing.
-use Prim.Native.Nat.{◌≤◌, ◌<◌, ◌-◌}
-use native.Mathlib.Omega.{arith}
-use mathlib.Core.Path.{◌≡◌, refl, sym}
+use Prim.Native.Nat.{◌≤◌, ◌-◌}
+use mathlib.Core.Path.{◌≡◌}
 use mathlib.Core.Bool.{true}
-use borrow.Author.Tests.{not-true, not-false}
 use Rattle.rights.specs.Below.{all_below}
-use Rattle.rights.specs.Sound.{sound_by}
-use Rattle.levels.proofs.Loops.{all_more, one_fails}
 use Rattle.sound.proofs.Standing.{sound_row}
 use Rattle.sound.proofs.sound_by.Given as goal
 

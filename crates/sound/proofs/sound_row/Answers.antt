@@ -1,11 +1,8 @@
 -- `sound::sound_row` meets its contract. The loop's invariant: each cell passed may stand. Assumes nothing.
-use Prim.Native.Nat.{◌≤◌, ◌<◌, ◌-◌}
+use Prim.Native.Nat.{◌<◌}
 use native.Mathlib.Omega.{arith}
 use mathlib.Core.Path.{◌≡◌, refl, sym}
-use mathlib.Core.Bool.{true}
-use borrow.Author.Tests.{not-true, not-false}
 use Rattle.rights.specs.Below.{all_below}
-use Rattle.rights.specs.Sound.{sound_cell}
 use Rattle.levels.proofs.Loops.{all_more, one_fails}
 use Rattle.sound.proofs.sound_row.Goals as goal
 

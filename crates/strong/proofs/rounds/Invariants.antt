@@ -1,12 +1,10 @@
 -- `strong::rounds` meets its contract. The loop's invariant: the rounds that are left come to what all of them come to. Assumes nothing.
-use Prim.Native.Nat.{ℕ, ◌≤◌, ◌<◌, ◌-◌}
-use native.Mathlib.Omega.{arith}
-use mathlib.Core.Path.{◌≡◌, refl, ap, sym, ◌∙◌}
+use Prim.Native.Nat.{◌≤◌, ◌-◌}
+use mathlib.Core.Path.{◌≡◌}
 use mathlib.Core.Bool.{true}
 use lib.ListN.{length}
 use Rattle.rights.specs.Sound.{readable}
 use Rattle.rights.specs.Deletion.{until_rest}
-use Rattle.strong.proofs.Rest.{all_left, last_round, next_round, round_whole}
 use Rattle.strong.proofs.rounds.Given as goal
 
 abbrev pub invariant-loop-k : goal.invariant-loop-k

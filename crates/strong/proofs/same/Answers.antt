@@ -1,9 +1,7 @@
 -- `strong::same` meets its contract. The loop's invariant: each row passed is the same in both. Assumes nothing.
-use Prim.Native.Nat.{◌≤◌, ◌<◌, ◌-◌}
+use Prim.Native.Nat.{◌<◌}
 use native.Mathlib.Omega.{arith}
 use mathlib.Core.Path.{◌≡◌, refl, sym}
-use mathlib.Core.Bool.{true}
-use borrow.Author.Tests.{not-true, not-false}
 use Rattle.rights.specs.Below.{all_below}
 use Rattle.rights.specs.Deletion.{same}
 use Rattle.levels.proofs.Loops.{all_more, one_fails}

@@ -1,10 +1,8 @@
 -- `strong::same_row` meets its contract. The loop's invariant: each cell passed is the same in both. Assumes nothing.
-use Prim.Native.Nat.{◌≤◌, ◌<◌, ◌-◌}
+use Prim.Native.Nat.{◌<◌}
 use native.Mathlib.Omega.{arith}
 use mathlib.Core.Path.{◌≡◌, refl, sym}
-use mathlib.Core.Bool.{true}
 use Rattle.rights.specs.Below.{all_below}
-use Rattle.rights.specs.Deletion.{same_cell}
 use Rattle.levels.proofs.Loops.{all_more, one_fails}
 use Rattle.strong.proofs.Alike.{cell_same, cell_differs}
 use Rattle.strong.proofs.same_row.Goals as goal

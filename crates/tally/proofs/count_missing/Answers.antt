@@ -1,10 +1,10 @@
 -- `tally::count_missing` meets its contract: before each turn the sum is that of the bytes before k. Assumes nothing.
-use Prim.Native.Nat.{ℕ, ◌+◌, ◌-◌, ◌*◌, ◌≤◌}
+use Prim.Native.Nat.{ℕ, ◌+◌, ◌*◌, ◌≤◌}
 use native.Mathlib.Omega.{arith}
 use mathlib.Core.Path.{◌≡◌, refl, ap, ap₂, sym, ◌∙◌}
 use lib.ListN.{length}
 use Rattle.rights.specs.Below.{sum_below}
-use Rattle.rights.specs.Cell.{size, without}
+use Rattle.rights.specs.Cell.{size}
 use Rattle.tally.specs.Missing.{missing_at}
 use Rattle.tally.proofs.Sum.{sum-next, sum-small, size_small}
 use borrow.Author.Rules.{rules}

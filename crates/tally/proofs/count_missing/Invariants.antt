@@ -1,12 +1,9 @@
 -- `tally::count_missing` meets its contract: before each turn the sum is that of the bytes before k. Assumes nothing.
-use Prim.Native.Nat.{ℕ, ◌+◌, ◌-◌, ◌*◌, ◌≤◌}
-use native.Mathlib.Omega.{arith}
-use mathlib.Core.Path.{◌≡◌, refl, ap, ap₂, sym, ◌∙◌}
+use Prim.Native.Nat.{◌-◌, ◌≤◌}
+use mathlib.Core.Path.{◌≡◌}
 use lib.ListN.{length}
 use Rattle.rights.specs.Below.{sum_below}
-use Rattle.rights.specs.Cell.{size, without}
 use Rattle.tally.specs.Missing.{missing_at}
-use Rattle.tally.proofs.Sum.{sum-next, sum-small, size_small}
 use Rattle.tally.proofs.count_missing.Given as goal
 
 abbrev pub invariant-loop-k : goal.invariant-loop-k

@@ -35,9 +35,17 @@ const CRATES: [&str; 29] = [
     "row_writer",
 ];
 
-/// What is no code of a function's body or a type: only Rattle has contracts, and only Rust says what is derived. A list of
-/// imports that needs several lines ends with the line of its semicolon.
-const LEFT_OUT: [&str; 6] = ["//", "#[", "requires ", "ensures ", "ghost use ", "use "];
+/// What is no code of a function's body or a type: only Rattle has contracts and tactics, and each of the two says for itself what is
+/// derived. A list of imports that needs several lines ends with the line of its semicolon.
+const LEFT_OUT: [&str; 7] = [
+    "//",
+    "#[",
+    "#![",
+    "requires ",
+    "ensures ",
+    "ghost use ",
+    "use ",
+];
 
 /// The words of a source as one string without blanks. Layout may break a list differently, so a comma before a closing bracket
 /// does not count.

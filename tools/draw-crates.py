@@ -14,9 +14,9 @@ WIDTH, HEIGHT, GAP_X, GAP_Y, MARGIN, BEND = 116, 30, 14, 44, 20, 2
 
 
 def cited_by_crate():
-    """what each listed crate cites, the kit's libraries left out"""
+    """what each listed crate cites, the kit's libraries left out; a static library has the word behind its name"""
     lines = [line for line in (ROOT / "crates.txt").read_text().splitlines() if line and not line.startswith("#")]
-    cited = {name: rest.split() for name, rest in (line.split(":") for line in lines)}
+    cited = {name.split()[0]: rest.split() for name, rest in (line.split(":") for line in lines)}
     return {name: [dep for dep in deps if dep in cited] for name, deps in cited.items()}
 
 

@@ -4,7 +4,7 @@ SECTIONS
 {
   .text.compared : SUBALIGN(64)
   {
-    *planner.o(.text .text.*)
+    *planner_c.o(.text .text.*)
     *(.text.*5bench5plain*)
   }
 }

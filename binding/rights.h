@@ -1,4 +1,4 @@
-/* The rights register of document 01, for callers in C11 and C++11 on x86-64 Linux.
+/* The rights register of document 01, for callers in C11 and C++11 on x86-64 Linux, on a processor of x86-64-v2 or later.
  *
  * Link with target/staticlib/libplanner.a, which `tools/build` makes. What each function promises is proved for every
  * header, command, register and text, and for buffers of every length: whatever is out of range is refused by its number.
@@ -49,7 +49,7 @@ enum rights_act { RIGHTS_GRANT = 0, RIGHTS_WLD = 1, RIGHTS_WGD = 2, RIGHTS_SLD =
 enum rights_perm { RIGHTS_NONE = 0, RIGHTS_FF = 1, RIGHTS_FT = 2, RIGHTS_TF = 4, RIGHTS_TT = 8 };
 
 /* Sizes that are always enough: offices of a register, commands of a run, the text of a header, of a row, of the end line. Those of
- * header and row are proved bounds (`header-short` and `row-short`). */
+ * header and row are proved bounds (`header_short` and `row_short`). */
 enum rights_most {
     RIGHTS_OFFICES = 128,
     RIGHTS_RUN = 256,

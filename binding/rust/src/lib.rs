@@ -28,10 +28,10 @@ pub const MOST_OFFICES: usize = 128;
 /// Most commands of a run.
 pub const LONGEST_RUN: usize = 256;
 
-/// Room that is enough for the text of any header, as the theorem `header-short` says.
+/// Room that is enough for the text of any header, as the theorem `header_short` says.
 pub const HEADER_TEXT: usize = 26;
 
-/// Room that is enough for the text of any row, as the theorem `row-short` says.
+/// Room that is enough for the text of any row, as the theorem `row_short` says.
 pub const ROW_TEXT: usize = 11_264;
 
 /// The length of the end line.

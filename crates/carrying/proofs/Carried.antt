@@ -6,7 +6,9 @@ use mathlib.Core.Bool.{Bool, true, false, not, cond}
 use lib.Dec.{eqb}
 use borrow.Author.Tests.{ne_eqb}
 use Rattle.rights.specs.Below.{all_below}
-use Rattle.rights.specs.Permission.{Permission, TT, TF, FT, FF, code, any_permission, decoded, serves, stronger, need}
+use Rattle.rights.specs.declared.Permission.{Permission}
+use Rattle.rights.specs.declared.Permission.TheVariants.{TT, TF, FT, FF}
+use Rattle.rights.specs.Permission.{code, any_permission, decoded, serves, stronger, need}
 use Rattle.rights.specs.Cell.{has, cell_of, carries, lowered, restrict}
 use Rattle.theory.proofs.Below.{same_below}
 use Rattle.theory.proofs.Cell.{each_permission, by-cells}

@@ -3,7 +3,9 @@ use Prim.Native.Nat.{ℕ, ◌+◌, ◌/◌, ◌%◌, ◌<◌}
 use mathlib.Core.Path.{◌≡◌, refl}
 use borrow.Author.Tests.{ne_eqb}
 use Rattle.rights.specs.Below.{all_below}
-use Rattle.rights.specs.Permission.{Permission, FF, code, decoded}
+use Rattle.rights.specs.declared.Permission.{Permission}
+use Rattle.rights.specs.declared.Permission.TheVariants.{FF}
+use Rattle.rights.specs.Permission.{code, decoded}
 use Rattle.rights.specs.Cell.{has, size}
 use Rattle.theory.proofs.Below.{same_below}
 use Rattle.theory.proofs.Cell.{decoded-code}

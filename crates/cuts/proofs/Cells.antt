@@ -9,7 +9,8 @@ use lib.Dec.{eqb}
 use lib.Arith.{digits_lt, digits_div, digits_mod}
 use borrow.Author.Tests.{eqb-true, eq-eqb}
 use Rattle.rights.specs.declared.Header.{Header}
-use Rattle.rights.specs.Permission.{Permission, code}
+use Rattle.rights.specs.declared.Permission.{Permission}
+use Rattle.rights.specs.Permission.{code}
 use Rattle.rights.specs.Cell.{union, restrict}
 use Rattle.rights.specs.Register.{cell, register}
 use Rattle.rights.specs.Restriction.{restricted, empty_where, is_cell, emptied}

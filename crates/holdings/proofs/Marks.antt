@@ -6,7 +6,8 @@ use mathlib.Core.List.{List, []}
 use lib.Dec.{eqb, leb}
 use Rattle.rights.specs.declared.Header.{Header}
 use Rattle.rights.specs.Below.{table}
-use Rattle.rights.specs.Permission.{Permission, need, any_permission}
+use Rattle.rights.specs.declared.Permission.{Permission}
+use Rattle.rights.specs.Permission.{need, any_permission}
 use Rattle.rights.specs.Cell.{carries}
 use Rattle.rights.specs.Register.{cell, soa_of}
 use Rattle.rights.specs.Level.{level_in, levels, holds_by}

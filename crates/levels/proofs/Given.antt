@@ -8,7 +8,8 @@ use lib.Dec.{eqb}
 use borrow.Author.Tests.{ne_eqb}
 use Rattle.rights.specs.declared.Header.{Header}
 use Rattle.rights.specs.Below.{table}
-use Rattle.rights.specs.Permission.{Permission, TT, TF}
+use Rattle.rights.specs.declared.Permission.{Permission}
+use Rattle.rights.specs.declared.Permission.TheVariants.{TT, TF}
 use Rattle.rights.specs.Register.{soa_of}
 use Rattle.rights.specs.Level.{is_in, linked, reached, levels_among, every_office, other_than, levels, independent_levels, level_in, level_by}
 use Rattle.rights.specs.Sound.{headed, whole, readable}

@@ -12,7 +12,7 @@ use lib.Dec.{eqb}
 use borrow.Author.Tests.{eqb-true, eqb-false, ne_eqb}
 use Rattle.rights.specs.declared.Header.{Header}
 use Rattle.rights.specs.Below.{table}
-use Rattle.rights.specs.Permission.{Permission}
+use Rattle.rights.specs.declared.Permission.{Permission}
 use Rattle.rights.specs.Register.{soa_of}
 use Rattle.rights.specs.Level.{is_in, reached, other_than, marked_first, marked_next, marking}
 use Rattle.theory.proofs.Tests.{decided, beq_same}

@@ -8,7 +8,8 @@ use lib.ListN.{length, drop}
 use lib.Dec.{eqb}
 use borrow.Author.Tests.{ne_eqb, lt-ltb, le-ltb}
 use Rattle.rights.specs.declared.Header.{Header}
-use Rattle.rights.specs.Permission.{Permission, decoded}
+use Rattle.rights.specs.declared.Permission.{Permission}
+use Rattle.rights.specs.Permission.{decoded}
 use Rattle.rights.specs.Register.{soa_of}
 use Rattle.rights.specs.Level.{holds}
 use Rattle.rights.specs.Sound.{first_of, unless, register_refusal}

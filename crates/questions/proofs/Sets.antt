@@ -6,7 +6,8 @@ use mathlib.Core.List.{List, [], ◌∷◌, ◌++◌}
 use lib.Dec.{ltb}
 use Rattle.rights.specs.declared.Header.{Header}
 use Rattle.rights.specs.Below.{any_below, first_below, table}
-use Rattle.rights.specs.Permission.{Permission, passing}
+use Rattle.rights.specs.declared.Permission.{Permission}
+use Rattle.rights.specs.Permission.{passing}
 use Rattle.rights.specs.Register.{soa_of}
 use Rattle.rights.specs.Level.{is_in}
 use Rattle.rights.specs.Question.{single, nearer, links_away, fewest_links, last_of, smallest, link_into, soa_away, fewest_into}

@@ -9,7 +9,8 @@ use lib.ListN.{length, get_or, set, drop}
 use lib.Seq.{drop-cons, set_at, append_snoc}
 use Rattle.rights.specs.declared.Header.{Header}
 use Rattle.rights.specs.Below.{first_below}
-use Rattle.rights.specs.Permission.{Permission, passing}
+use Rattle.rights.specs.declared.Permission.{Permission}
+use Rattle.rights.specs.Permission.{passing}
 use Rattle.rights.specs.Register.{soa_of}
 use Rattle.rights.specs.Question.{nearer, last_of, smallest, link_into}
 use Rattle.theory.proofs.Smallest.{smallest-length, smallest_last}

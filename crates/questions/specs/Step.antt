@@ -1,7 +1,7 @@
 -- The holding question in the steps in which the code takes it.
 use Rattle.std.specs.Prelude.{ℕ, cond, List}
 use Rattle.rights.specs.declared.Header.{Header}
-use Rattle.rights.specs.Permission.{Permission}
+use Rattle.rights.specs.declared.Permission.{Permission}
 use Rattle.rights.specs.Level.{holds}
 use Rattle.rights.specs.Question.{Answer, picked_chain, shown, not_shown}
 

@@ -6,7 +6,8 @@ use mathlib.Core.List.{List}
 use lib.ListN.{get_or}
 use lib.Dec.{leb}
 use Rattle.rights.specs.declared.Header.{Header}
-use Rattle.rights.specs.Permission.{Permission, need}
+use Rattle.rights.specs.declared.Permission.{Permission}
+use Rattle.rights.specs.Permission.{need}
 use Rattle.rights.specs.Level.{level_in, levels}
 use Rattle.rights.specs.Sound.{headed, whole, readable}
 use Rattle.rights.specs.Command.{may_grant}

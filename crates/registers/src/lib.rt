@@ -2,11 +2,40 @@
 // any office.
 #![tactic(auto)]
 
-ghost use Rattle.std.specs.Prelude.{◌≡◌};
+ghost use Rattle.std.specs.Prelude.{◌≡◌, true, is_some, IfSome};
+
 ghost use Rattle.rights.specs.Register.{cell as cell_of};
 ghost use Rattle.rights.specs.Sound.{headed as is_headed, whole as is_whole, readable as is_readable, barred as is_barred};
 
 use rights::{Header, Office};
+
+// A register that can be read: its header is one, and its bytes are as many as its cells.
+#[derive(Clone, Copy)]
+pub struct Register<'a> {
+    pub cells: &'a [u8],
+    pub header: Header,
+    ghost is_readable: { is_readable header cells.now ≡ true },
+}
+
+impl<'a> Register<'a> {
+    // The register of a header and a buffer, where these are one.
+    pub fn of(cells: &'a [u8], header: Header) -> Option<Register<'a>>
+        ensures there { is_some result ≡ is_readable header cells.now }
+        ensures same { IfSome result (λ r. (r.header ≡ header) × (r.cells.now ≡ cells.now)) }
+    {
+        if readable(cells, header) {
+            return Some(Register { cells, header });
+        }
+        None
+    }
+
+    // The cell of a grantor and a subject.
+    pub fn cell(&self, by: Office, to: Office) -> u8
+        ensures { result ≡ cell_of self.now.header self.now.cells.now by.0 to.0 }
+    {
+        cell(self.cells, self.header, by, to)
+    }
+}
 
 // The cell of a grantor and a subject; empty where there are too few bytes, so that no caller has to know that there are not.
 pub fn cell(cells: &[u8], header: Header, by: Office, to: Office) -> u8

@@ -2,7 +2,9 @@
 -- Where 01 gives no tally, it is the one that 01's words give.
 use Rattle.std.specs.Prelude.{ℕ, List, [], ◌∷◌}
 use Rattle.rights.specs.declared.Command.{Command}
-use Rattle.rights.specs.Permission.{Permission, TT, TF, FT, FF, code}
+use Rattle.rights.specs.declared.Permission.{Permission}
+use Rattle.rights.specs.declared.Permission.TheVariants.{TT, TF, FT, FF}
+use Rattle.rights.specs.Permission.{code}
 use Rattle.rights.specs.Maps.{Map, map_of, map_a, map_b, map_c, map_d, map_e, map_f, map_g, map_h}
 
 -- one case of the list: the commands or the question on a map, and what is said to come of it

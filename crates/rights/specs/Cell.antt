@@ -1,6 +1,8 @@
 -- A cell: 'a set of permissions .. Each member is one record' (01, 'Numbers'). A set of four is a number below 16.
 use Rattle.std.specs.Prelude.{ℕ, zero, suc, ◌+◌, ◌/◌, ◌%◌, Bool, false, ◌&&◌, ◌||◌, not, cond, eqb}
-use Rattle.rights.specs.Permission.{Permission, TT, TF, FT, FF, code, any_permission, serves}
+use Rattle.rights.specs.declared.Permission.{Permission}
+use Rattle.rights.specs.declared.Permission.TheVariants.{TT, TF, FT, FF}
+use Rattle.rights.specs.Permission.{code, any_permission, serves}
 
 -- the record p stands in the cell
 unfoldable pub has : ℕ → Permission → Bool

@@ -2,7 +2,8 @@
 use Rattle.std.specs.Prelude.{ℕ, Bool, ◌&&◌, not, cond, List, eqb, ltb, leb}
 use Rattle.rights.specs.declared.Header.{Header}
 use Rattle.rights.specs.declared.Command.{Command}
-use Rattle.rights.specs.Permission.{Permission, is_code, decoded, entitles, any_permission}
+use Rattle.rights.specs.declared.Permission.{Permission}
+use Rattle.rights.specs.Permission.{is_code, decoded, entitles, any_permission}
 use Rattle.rights.specs.Cell.{has}
 use Rattle.rights.specs.Register.{cell}
 use Rattle.rights.specs.Level.{holds}

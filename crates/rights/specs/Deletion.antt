@@ -2,7 +2,8 @@
 use Rattle.std.specs.Prelude.{ℕ, zero, suc, Bool, true, false, ◌&&◌, not, cond, List, eqb}
 use Rattle.rights.specs.declared.Header.{Header}
 use Rattle.rights.specs.Below.{table, all_below}
-use Rattle.rights.specs.Permission.{Permission, code, any_permission}
+use Rattle.rights.specs.declared.Permission.{Permission}
+use Rattle.rights.specs.Permission.{code, any_permission}
 use Rattle.rights.specs.Cell.{union, without}
 use Rattle.rights.specs.Register.{cell, register}
 use Rattle.rights.specs.Level.{is_in, levels, independent_levels, level_in, holds_by}

@@ -2,7 +2,9 @@
 use Rattle.std.specs.Prelude.{ℕ, zero, suc, Bool, true, false, ◌&&◌, ◌||◌, not, cond, List, get_or, eqb, leb}
 use Rattle.rights.specs.declared.Header.{Header}
 use Rattle.rights.specs.Below.{any_below, table}
-use Rattle.rights.specs.Permission.{Permission, TT, TF, need}
+use Rattle.rights.specs.declared.Permission.{Permission}
+use Rattle.rights.specs.declared.Permission.TheVariants.{TT, TF}
+use Rattle.rights.specs.Permission.{need}
 use Rattle.rights.specs.Cell.{carries}
 use Rattle.rights.specs.Register.{cell, soa_of}
 

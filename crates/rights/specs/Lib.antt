@@ -10,6 +10,8 @@ pub mod Sound
 pub mod Restriction
 pub mod Deletion
 pub mod Tally
+pub mod Refusal
+pub mod Act
 pub mod Command
 pub mod Question
 pub mod Run

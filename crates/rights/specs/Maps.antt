@@ -1,7 +1,9 @@
 -- The small maps of 01, 'Cuts on a small map', written as 01 writes them: a list of records.
 use Rattle.std.specs.Prelude.{ℕ, ◌+◌, ◌*◌, List, [], ◌∷◌, get_or, set, replicate}
 use Rattle.rights.specs.declared.Header.{Header}
-use Rattle.rights.specs.Permission.{Permission, TT, TF, FT, FF, code}
+use Rattle.rights.specs.declared.Permission.{Permission}
+use Rattle.rights.specs.declared.Permission.TheVariants.{TT, TF, FT, FF}
+use Rattle.rights.specs.Permission.{code}
 
 -- a record: grantor, subject, permission; 01's '0→1 TT' is (0, 1, TT)
 abbrev pub Grant : Type 0

@@ -1,7 +1,7 @@
 -- Which of the rooted chains 01 picks, in its words. That 'pickedChain' of Question is that chain is a law.
 use Rattle.std.specs.Prelude.{ℕ, ◌≤◌, ◌≡◌, Bool, true, false, ◌&&◌, ◌||◌, List, [], ◌∷◌, length, eqb, ltb}
 use Rattle.rights.specs.declared.Header.{Header}
-use Rattle.rights.specs.Permission.{Permission}
+use Rattle.rights.specs.declared.Permission.{Permission}
 use Rattle.rights.specs.Chain.{RootedChain}
 
 -- Lists of offices 'compared from SOA on': the first place where they differ decides.

@@ -1,9 +1,7 @@
 -- The four permissions and what 01, 'Permissions and chains', says of each alone.
 use Rattle.std.specs.Prelude.{ℕ, Bool, true, false, ◌||◌, cond, eqb}
-
--- the first letter is the right to pass on, the second the right to issue negatives
-pub data Permission : Type 0 where
-  TT TF FT FF : Permission
+use Rattle.rights.specs.declared.Permission.{Permission}
+use Rattle.rights.specs.declared.Permission.TheVariants.{TT, TF, FT, FF}
 
 -- 01, 'Numbers': '8 = TT, 4 = TF, 2 = FT, 1 = FF'
 unfoldable pub code : Permission → ℕ

@@ -2,7 +2,8 @@
 use Rattle.std.specs.Prelude.{ℕ, ◌*◌, ◌<◌, ◌≤◌, ◌≡◌, Bool, true, ◌&&◌, ◌||◌, not, cond, List, length, eqb, leb, ltb}
 use Rattle.rights.specs.declared.Header.{Header}
 use Rattle.rights.specs.Below.{all_below}
-use Rattle.rights.specs.Permission.{Permission, entitles}
+use Rattle.rights.specs.declared.Permission.{Permission}
+use Rattle.rights.specs.Permission.{entitles}
 use Rattle.rights.specs.Cell.{has, restrict}
 use Rattle.rights.specs.Register.{cell, soa_of}
 use Rattle.rights.specs.Chain.{Holds}

@@ -8,7 +8,9 @@ use mathlib.Core.Bool.{Bool, true, false, cond}
 use mathlib.Core.List.{List, [], ◌++◌, append-nil, append_assoc}
 use lib.ListN.{length, length-append}
 use Rattle.rights.specs.declared.Header.{Header}
-use Rattle.rights.specs.Permission.{Permission, TT, TF, FT, FF, code, decoded}
+use Rattle.rights.specs.declared.Permission.{Permission}
+use Rattle.rights.specs.declared.Permission.TheVariants.{TT, TF, FT, FF}
+use Rattle.rights.specs.Permission.{code, decoded}
 use Rattle.rights.specs.Cell.{has, size}
 use Rattle.rights.specs.Register.{cell}
 use Rattle.theory.proofs.Cell.{cond_le}

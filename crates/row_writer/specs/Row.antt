@@ -1,7 +1,8 @@
 -- Names for the parts of a row's text.
 use Rattle.std.specs.Prelude.{ℕ, List, ◌++◌}
 use Rattle.rights.specs.declared.Header.{Header}
-use Rattle.rights.specs.Permission.{Permission, code}
+use Rattle.rights.specs.declared.Permission.{Permission}
+use Rattle.rights.specs.Permission.{code}
 use Rattle.wording.specs.Word.{by_line, to_line, perm_line, key}
 use Rattle.wording.specs.Line.{line_text}
 use Rattle.wording.specs.Records.{records_text, record_of, cell_records, row_records_up_to}

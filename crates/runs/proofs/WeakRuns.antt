@@ -8,7 +8,7 @@ use lib.ListN.{length}
 use Rattle.rights.specs.declared.Header.{Header}
 use Rattle.rights.specs.declared.Entry.{Entry}
 use Rattle.rights.specs.declared.Ran.{Ran}
-use Rattle.rights.specs.Permission.{Permission}
+use Rattle.rights.specs.declared.Permission.{Permission}
 use Rattle.rights.specs.Chain.{Holds, HoldsUnused}
 use Rattle.rights.specs.Run.{commands_of, run_outcome, WeakGlobals, names_pair}
 use Rattle.theory.proofs.Ready.{Ready}

@@ -7,7 +7,7 @@ use mathlib.Core.Path.{◌≡◌, ap, sym, ◌∙◌}
 use mathlib.Core.List.{List}
 use lib.ListN.{get_or}
 use Rattle.rights.specs.declared.Header.{Header}
-use Rattle.rights.specs.Permission.{TT, TF, FT, FF}
+use Rattle.rights.specs.declared.Permission.TheVariants.{TT, TF, FT, FF}
 use Rattle.rights.specs.Below.{sum_below}
 use Rattle.rights.specs.Cell.{has, size, without}
 use Rattle.rights.specs.Register.{cell}

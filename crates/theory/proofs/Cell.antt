@@ -7,7 +7,9 @@ use mathlib.Core.Bool.{Bool, true, false, ◌&&◌, ◌||◌, not, cond, beq, an
 use lib.Dec.{eqb, leb, ltb, lit≤}
 use borrow.Author.Tests.{eqb-true, leb-true, ltb-true, ltb-false, lt-ltb, le-leb, le-ltb}
 use Rattle.rights.specs.Below.{all_below}
-use Rattle.rights.specs.Permission.{Permission, TT, TF, FT, FF, code, any_permission, decoded, entitles, stronger, serves, need, passing}
+use Rattle.rights.specs.declared.Permission.{Permission}
+use Rattle.rights.specs.declared.Permission.TheVariants.{TT, TF, FT, FF}
+use Rattle.rights.specs.Permission.{code, any_permission, decoded, entitles, stronger, serves, need, passing}
 use Rattle.rights.specs.Cell.{has, cell_of, carries, lowered, restrict}
 use Rattle.theory.proofs.Tests.{both, left_of, right_of, or_left, or_right, either, clash, fails, beq_same}
 use Rattle.theory.proofs.Below.{all_at, same_below}

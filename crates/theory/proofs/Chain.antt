@@ -9,7 +9,9 @@ use lib.Dec.{eqb, leb}
 use borrow.Author.Tests.{eqb-true, eqb-false, eq-eqb, ne_eqb, not-true, leb-true, leb-false, le-leb, lt-leb}
 use Rattle.rights.specs.declared.Header.{Header}
 use Rattle.rights.specs.Below.{any_below}
-use Rattle.rights.specs.Permission.{Permission, TT, TF, need, passing, entitles, serves}
+use Rattle.rights.specs.declared.Permission.{Permission}
+use Rattle.rights.specs.declared.Permission.TheVariants.{TT, TF}
+use Rattle.rights.specs.Permission.{need, passing, entitles, serves}
 use Rattle.rights.specs.Cell.{carries, restrict}
 use Rattle.rights.specs.Register.{cell, soa_of}
 use Rattle.rights.specs.Chain.{RootedChain, alone, link, Holds, HoldsWithout, HoldsUnused, names, uses}

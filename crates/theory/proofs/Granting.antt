@@ -8,7 +8,8 @@ use mathlib.Core.List.{List}
 use lib.Dec.{eqb}
 use borrow.Author.Tests.{eqb-true}
 use Rattle.rights.specs.declared.Header.{Header}
-use Rattle.rights.specs.Permission.{Permission, code, need}
+use Rattle.rights.specs.declared.Permission.{Permission}
+use Rattle.rights.specs.Permission.{code, need}
 use Rattle.rights.specs.Cell.{has, union}
 use Rattle.rights.specs.Register.{cell}
 use Rattle.rights.specs.Level.{every_office, levels, level_in}

@@ -10,7 +10,9 @@ use lib.Dec.{eqb, ltb}
 use borrow.Author.Tests.{eqb-true, eq-eqb, ltb-true, ltb-false}
 use Rattle.rights.specs.declared.Header.{Header}
 use Rattle.rights.specs.Below.{table}
-use Rattle.rights.specs.Permission.{Permission, TT, TF, need, passing}
+use Rattle.rights.specs.declared.Permission.{Permission}
+use Rattle.rights.specs.declared.Permission.TheVariants.{TT, TF}
+use Rattle.rights.specs.Permission.{need, passing}
 use Rattle.rights.specs.Cell.{carries}
 use Rattle.rights.specs.Register.{cell, soa_of}
 use Rattle.rights.specs.Level.{is_in, linked, reached, levels_among, level_in, linked_by, marked_first, marked_next, marking}

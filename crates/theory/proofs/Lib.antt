@@ -10,6 +10,7 @@ pub mod Level
 pub mod Chain
 pub mod Ready
 pub mod Refusals
+pub mod Refusal
 pub mod Sound
 pub mod Reading
 pub mod Order

@@ -9,7 +9,8 @@ use mathlib.Core.List.{List, [], ◌∷◌, ◌++◌}
 use lib.Dec.{eqb, leb}
 use borrow.Author.Tests.{eqb-true, eq-eqb, ne_eqb, le-leb, not-true}
 use Rattle.rights.specs.declared.Header.{Header}
-use Rattle.rights.specs.Permission.{Permission, code, need, passing}
+use Rattle.rights.specs.declared.Permission.{Permission}
+use Rattle.rights.specs.Permission.{code, need, passing}
 use Rattle.rights.specs.Cell.{has, carries, restrict, union, without, cell_of}
 use Rattle.rights.specs.Register.{cell, soa_of}
 use Rattle.rights.specs.Level.{every_office, levels, level_in}

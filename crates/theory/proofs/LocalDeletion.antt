@@ -9,7 +9,8 @@ use mathlib.Core.List.{List, [], ◌∷◌, ◌++◌}
 use lib.Dec.{eqb, leb}
 use borrow.Author.Tests.{eqb-true, eqb-false, eq-eqb, ne_eqb, le-leb}
 use Rattle.rights.specs.declared.Header.{Header}
-use Rattle.rights.specs.Permission.{Permission, need, passing}
+use Rattle.rights.specs.declared.Permission.{Permission}
+use Rattle.rights.specs.Permission.{need, passing}
 use Rattle.rights.specs.Register.{soa_of}
 use Rattle.rights.specs.Level.{every_office, other_than, levels, level_in, independent_levels}
 use Rattle.rights.specs.Sound.{barred, sound}

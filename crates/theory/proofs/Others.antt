@@ -9,7 +9,8 @@ use mathlib.Core.List.{List, [], ◌∷◌, ◌++◌}
 use lib.Dec.{eqb, leb}
 use borrow.Author.Tests.{eqb-true, eqb-false, le-leb, not-true}
 use Rattle.rights.specs.declared.Header.{Header}
-use Rattle.rights.specs.Permission.{Permission, need, passing, serves}
+use Rattle.rights.specs.declared.Permission.{Permission}
+use Rattle.rights.specs.Permission.{need, passing, serves}
 use Rattle.rights.specs.Cell.{has, carries, union, without}
 use Rattle.rights.specs.Register.{cell, soa_of}
 use Rattle.rights.specs.Level.{levels, level_in}

@@ -10,7 +10,8 @@ use lib.Dec.{eqb}
 use borrow.Author.Tests.{eqb-true, eq-eqb, leb-true}
 use Rattle.rights.specs.declared.Header.{Header}
 use Rattle.rights.specs.declared.Command.{Command}
-use Rattle.rights.specs.Permission.{Permission, decoded, need}
+use Rattle.rights.specs.declared.Permission.{Permission}
+use Rattle.rights.specs.Permission.{decoded, need}
 use Rattle.rights.specs.Cell.{has}
 use Rattle.rights.specs.Register.{cell, soa_of}
 use Rattle.rights.specs.Level.{levels, level_in}

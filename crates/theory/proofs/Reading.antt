@@ -1,7 +1,9 @@
 -- Which reading serves for which, one link earlier. Assumes nothing.
 use mathlib.Core.Path.{◌≡◌, refl}
 use mathlib.Core.Bool.{Bool, true, ◌||◌, not}
-use Rattle.rights.specs.Permission.{Permission, TT, TF, FT, FF, code, stronger, serves, passing}
+use Rattle.rights.specs.declared.Permission.{Permission}
+use Rattle.rights.specs.declared.Permission.TheVariants.{TT, TF, FT, FF}
+use Rattle.rights.specs.Permission.{code, stronger, serves, passing}
 use Rattle.theory.proofs.Cell.{each_permission, each_permission_lem}
 
 -- where q serves for p, what passes q on serves for what passes p on

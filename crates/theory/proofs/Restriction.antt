@@ -11,7 +11,9 @@ use lib.Seq.{ext_get_or}
 use lib.Dec.{leb, eqb, lit≤}
 use borrow.Author.Tests.{le-leb, leb-true}
 use Rattle.rights.specs.declared.Header.{Header}
-use Rattle.rights.specs.Permission.{Permission, TT, TF, need, passing}
+use Rattle.rights.specs.declared.Permission.{Permission}
+use Rattle.rights.specs.declared.Permission.TheVariants.{TT, TF}
+use Rattle.rights.specs.Permission.{need, passing}
 use Rattle.rights.specs.Cell.{carries, restrict}
 use Rattle.rights.specs.Register.{cell, soa_of}
 use Rattle.rights.specs.Level.{levels_among, level_in, levels, every_office, holds, holds_by}

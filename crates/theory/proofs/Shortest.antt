@@ -9,7 +9,8 @@ use lib.Dec.{leb}
 use borrow.Author.Tests.{leb-true, leb-false}
 use Rattle.rights.specs.declared.Header.{Header}
 use Rattle.rights.specs.Below.{any_below}
-use Rattle.rights.specs.Permission.{Permission, passing}
+use Rattle.rights.specs.declared.Permission.{Permission}
+use Rattle.rights.specs.Permission.{passing}
 use Rattle.rights.specs.Register.{soa_of}
 use Rattle.rights.specs.Question.{single, smallest, soa_away}
 use Rattle.theory.proofs.Tests.{decided, clash, fails}

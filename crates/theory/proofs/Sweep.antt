@@ -6,7 +6,7 @@ use mathlib.Core.Path.{◌≡◌, ap, sym, ◌∙◌}
 use mathlib.Core.List.{List}
 use lib.ListN.{length}
 use Rattle.rights.specs.declared.Header.{Header}
-use Rattle.rights.specs.Permission.{Permission}
+use Rattle.rights.specs.declared.Permission.{Permission}
 use Rattle.rights.specs.Register.{soa_of}
 use Rattle.rights.specs.Level.{level_in, levels, every_office, holds}
 use Rattle.rights.specs.Restriction.{restricted, rows_to, sweep}

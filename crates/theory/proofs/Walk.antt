@@ -8,7 +8,8 @@ use mathlib.Core.List.{List, [], ◌∷◌, ◌++◌}
 use lib.ListN.{length, get_or, length-append, get_or-append}
 use lib.Seq.{get_or_at}
 use Rattle.rights.specs.declared.Header.{Header}
-use Rattle.rights.specs.Permission.{Permission, serves, passing}
+use Rattle.rights.specs.declared.Permission.{Permission}
+use Rattle.rights.specs.Permission.{serves, passing}
 use Rattle.rights.specs.Cell.{carries}
 use Rattle.rights.specs.Register.{cell, soa_of}
 use Rattle.rights.specs.Chain.{RootedChain, alone, link}

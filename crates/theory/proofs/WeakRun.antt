@@ -10,7 +10,7 @@ use lib.Dec.{eqb}
 use borrow.Author.Tests.{eqb-true, eq-eqb, lt-ltb}
 use Rattle.rights.specs.declared.Header.{Header}
 use Rattle.rights.specs.declared.Command.{Command}
-use Rattle.rights.specs.Permission.{Permission}
+use Rattle.rights.specs.declared.Permission.{Permission}
 use Rattle.rights.specs.Cell.{restrict}
 use Rattle.rights.specs.Register.{cell}
 use Rattle.rights.specs.Chain.{Holds, HoldsUnused}

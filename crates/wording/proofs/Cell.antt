@@ -5,7 +5,9 @@ use mathlib.Core.Bool.{Bool, true, false, ◌||◌}
 use native.Mathlib.Omega.{arith}
 use lib.Dec.{eqb}
 use borrow.Author.Tests.{eqb-true, eq-eqb}
-use Rattle.rights.specs.Permission.{Permission, TT, TF, FT, FF, code, any_permission, is_code, decoded}
+use Rattle.rights.specs.declared.Permission.{Permission}
+use Rattle.rights.specs.declared.Permission.TheVariants.{TT, TF, FT, FF}
+use Rattle.rights.specs.Permission.{code, any_permission, is_code, decoded}
 use Rattle.rights.specs.Cell.{has, union}
 use Rattle.theory.proofs.Tests.{same_test}
 use Rattle.theory.proofs.Cell.{has-cell_of, one_record}

@@ -9,7 +9,9 @@ use lib.Dec.{eqb}
 use borrow.Author.Tests.{eq-eqb, ne_eqb}
 use Rattle.rights.specs.declared.Header.{Header}
 use Rattle.rights.specs.Below.{any_below}
-use Rattle.rights.specs.Permission.{Permission, TT, TF, FT, FF, code}
+use Rattle.rights.specs.declared.Permission.{Permission}
+use Rattle.rights.specs.declared.Permission.TheVariants.{TT, TF, FT, FF}
+use Rattle.rights.specs.Permission.{code}
 use Rattle.rights.specs.Cell.{has}
 use Rattle.rights.specs.Register.{cell}
 use Rattle.wording.specs.Records.{Record, joined, record_of, cell_records, row_records_up_to, row_records}

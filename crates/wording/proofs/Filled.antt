@@ -7,7 +7,8 @@ use native.Mathlib.Omega.{arith}
 use lib.Dec.{eqb}
 use lib.ListN.{length}
 use Rattle.rights.specs.declared.Header.{Header}
-use Rattle.rights.specs.Permission.{Permission, code, decoded}
+use Rattle.rights.specs.declared.Permission.{Permission}
+use Rattle.rights.specs.Permission.{code, decoded}
 use Rattle.rights.specs.Cell.{has, union}
 use Rattle.rights.specs.Register.{cell, register}
 use Rattle.rights.specs.Restriction.{is_cell}

@@ -7,7 +7,8 @@ use native.Mathlib.Omega.{arith}
 use native.Mathlib.Nat.{le_trans}
 use lib.Dec.{eqb}
 use borrow.Author.Tests.{eqb-true, eq-eqb}
-use Rattle.rights.specs.Permission.{Permission, code, is_code, decoded}
+use Rattle.rights.specs.declared.Permission.{Permission}
+use Rattle.rights.specs.Permission.{code, is_code, decoded}
 use Rattle.wording.specs.Records.{Record}
 use Rattle.theory.proofs.Tests.{left_of, right_of}
 use Rattle.wording.proofs.Truth.{never}

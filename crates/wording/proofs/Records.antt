@@ -7,7 +7,9 @@ use native.Mathlib.Omega.{arith}
 use lib.Dec.{eqb, ltb, leb}
 use lib.ListN.{length}
 use borrow.Author.Tests.{ltb-true, ltb-false, leb-true, lt-ltb, le-leb, ne_eqb}
-use Rattle.rights.specs.Permission.{Permission, TT, TF, FT, FF, code, any_permission, is_code, decoded}
+use Rattle.rights.specs.declared.Permission.{Permission}
+use Rattle.rights.specs.declared.Permission.TheVariants.{TT, TF, FT, FF}
+use Rattle.rights.specs.Permission.{code, any_permission, is_code, decoded}
 use Rattle.wording.specs.Word.{key, form, by_line, to_line, perm_line, end_text, perms, worded}
 use Rattle.wording.specs.Line.{After, after, otherwise, after_word, Line, value, bad, line_of, line_text, fits}
 use Rattle.wording.specs.Lines.{Reading, got, bad_at, and_before}

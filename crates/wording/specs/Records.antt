@@ -1,7 +1,9 @@
 -- Records one after the other: the text of a register between its header and its end.
 use Rattle.std.specs.Prelude.{ℕ, zero, suc, Bool, ◌&&◌, ◌||◌, cond, List, [], ◌∷◌, ◌++◌, ltb, leb}
 use Rattle.rights.specs.declared.Header.{Header}
-use Rattle.rights.specs.Permission.{Permission, TT, TF, FT, FF, code}
+use Rattle.rights.specs.declared.Permission.{Permission}
+use Rattle.rights.specs.declared.Permission.TheVariants.{TT, TF, FT, FF}
+use Rattle.rights.specs.Permission.{code}
 use Rattle.rights.specs.Cell.{has}
 use Rattle.rights.specs.Register.{cell}
 use Rattle.wording.specs.Word.{by_line, to_line, perm_line, end_text}

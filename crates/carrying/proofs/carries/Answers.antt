@@ -2,7 +2,8 @@
 -- Assumes nothing.
 use native.Mathlib.Omega.{arith}
 use mathlib.Core.Path.{sym}
-use Rattle.rights.specs.Permission.{TT, TF, FT, FF, code}
+use Rattle.rights.specs.declared.Permission.TheVariants.{TT, TF, FT, FF}
+use Rattle.rights.specs.Permission.{code}
 use Rattle.cells.proofs.Byte.{as_code, as_FF}
 use Rattle.carrying.proofs.Carried.{bits, carries_bits}
 use Rattle.carrying.proofs.carries.Goals as goal

@@ -1,5 +1,6 @@
 -- `cuts::record_of` meets its contract, code by code. Assumes nothing.
-use Rattle.rights.specs.Permission.{code, TT, TF, FT}
+use Rattle.rights.specs.declared.Permission.TheVariants.{TT, TF, FT}
+use Rattle.rights.specs.Permission.{code}
 use Rattle.cells.proofs.Byte.{as_code, as_FF}
 use Rattle.cuts.proofs.record_of.Goals as goal
 

@@ -1,5 +1,6 @@
 -- `row_writer::perm_line` meets its contract: in each way the number is read as one permission. Assumes nothing.
-use Rattle.rights.specs.Permission.{code, TT, TF, FT}
+use Rattle.rights.specs.declared.Permission.TheVariants.{TT, TF, FT}
+use Rattle.rights.specs.Permission.{code}
 use Rattle.wording.specs.Word.{key, form, perms, word_for}
 use Rattle.wording.specs.Line.{word_of, line_text}
 use Rattle.cells.proofs.Byte.{as_code, as_FF}

@@ -1,5 +1,6 @@
 -- What a cell carries and what a level leaves of it, as the code reads them: by the byte's lower bits. Assumes nothing.
-use Prim.Native.Nat.{ℕ, zero, suc, ◌+◌, ◌*◌, ◌/◌, ◌%◌, ◌<◌}
+use Prim.Native.Nat.{min, ℕ, zero, suc, ◌+◌, ◌*◌, ◌/◌, ◌%◌, ◌<◌, ◌≤◌}
+use native.Mathlib.Omega.{arith}
 use mathlib.Core.Path.{◌≡◌, refl}
 use mathlib.Core.Logic.{◌⊎◌, inl, inr, ⊎_elim}
 use mathlib.Core.Bool.{Bool, true, false, not, cond}
@@ -28,28 +29,14 @@ carries_bits c p h =
     by-cells 256 carries bits refl c p h
 
 -- a lowered cell by its bits
-pub lowered_bits : (c : ℕ) → c < 256 → cond (eqb (c / 4 % 4) 0) 0 1 * 4 + cond (eqb (c % 4) 0) 0 1 ≡ restrict c 1
+pub lowered_bits : (c : ℕ) → c < 256 → min (c / 4 % 4) 1 * 4 + min (c % 4) 1 ≡ restrict c 1
 unfolding restrict lowered cell_of has code all_below
 lowered_bits c h =
-    same_below 256 (λ c. cond (eqb (c / 4 % 4) 0) 0 1 * 4 + cond (eqb (c % 4) 0) 0 1) (λ c. restrict c 1) refl c h
-
--- TT and FT alike take level 2
-pub need-whole : {k : ℕ} → (k ≡ 2) ⊎ (k ≡ 8) → need (decoded k) ≡ 2
-unfolding need code
-need-whole = ⊎_elim (λ e. rw (as_code FT e)) (λ e. rw (as_code TT e))
-
--- and TF and FF level 1
-pub need_part : (k : ℕ) → ((k ≡ 2) ⊎ (k ≡ 8) → ⊥) → need (decoded k) ≡ 1
-unfolding need decoded
-need_part k other = rw (ne_eqb k 8 (λ e. other (inr e)), ne_eqb k 2 (λ e. other (inl e))) (either (eqb k 4))
-  where
-    either : (t : Bool) → need (cond t TF FF) ≡ 1
-    either true = refl
-    either false = refl
+    same_below 256 (λ c. min (c / 4 % 4) 1 * 4 + min (c % 4) 1) (λ c. restrict c 1) refl c h
 
 -- from level 2 on a cell is kept
-pub restrict_high : (c level : ℕ) → (level ≡ 0 → ⊥) → (level ≡ 1 → ⊥) → restrict c level ≡ c
+pub restrict_high : (c level : ℕ) → 2 ≤ level → restrict c level ≡ c
 unfolding restrict
-restrict_high c zero a b = absurd (a refl)
-restrict_high c (suc zero) a b = absurd (b refl)
-restrict_high c (suc (suc v)) a b = refl
+restrict_high c zero h = absurd (omega arith)
+restrict_high c (suc zero) h = absurd (omega arith)
+restrict_high c (suc (suc v)) h = refl

@@ -2,60 +2,64 @@
 // byte, read as in `cells`.
 #![tactic(auto)]
 
-ghost use Rattle.std.specs.Prelude.{◌≡◌, cond, ◌≤◌, eqb, leb};
+ghost use Rattle.std.specs.Prelude.{◌≡◌, leb};
 ghost use Rattle.rights.specs.Permission.{need, decoded};
 ghost use Rattle.rights.specs.Cell.{carries as cell_carries, restrict as restrict_cell};
 
+use rights::Permission;
+
 // Whether a link with this cell can be read as the permission: it, or something stronger, stands there.
+pub fn carries_as(c: u8, perm: Permission) -> bool
+    ensures { result ≡ cell_carries c perm }
+{
+    match perm {
+        Permission::TT => c / 8 % 2 == 1,
+        Permission::TF => c / 4 % 4 != 0,
+        Permission::FT => c / 8 % 2 + c / 2 % 2 != 0,
+        Permission::FF => c % 16 != 0,
+    }
+}
+
+// Whether such a link can be read as the permission that the number stands for.
 pub fn carries(c: u8, perm: u8) -> bool
     ensures { result ≡ cell_carries c (decoded perm) }
 {
-    if perm == 8 {
-        return c / 8 % 2 == 1;
-    }
-    if perm == 4 {
-        return c / 4 % 4 != 0;
-    }
-    if perm == 2 {
-        return c / 8 % 2 + c / 2 % 2 != 0;
-    }
-    c % 16 != 0
+    carries_as(c, Permission::decoded(perm))
 }
 
-// The level that a grantor of the permission has: 2 for TT and FT, 1 for TF and FF.
-fn needed(perm: u8) -> u8
-    ensures { result ≡ need (decoded perm) }
+// The level that a grantor of the permission has.
+#[tactic(auto, unfolding(rights::specs::Permission::need))]
+fn needed(perm: Permission) -> u8
+    ensures { result ≡ need perm }
 {
     match perm {
-        2 | 8 => 2,
-        _ => 1,
+        Permission::TT | Permission::FT => 2,
+        Permission::TF | Permission::FF => 1,
     }
 }
 
 // Whether a grantor of this level may grant the permission.
-pub fn enough(perm: u8, level: u8) -> bool
-    ensures { result ≡ leb (need (decoded perm)) level }
+pub fn suffices(level: u8, perm: Permission) -> bool
+    ensures { result ≡ leb (need perm) level }
 {
     needed(perm) <= level
 }
 
-// 1 if one of two records stands, since a record that is lowered merges with its equal.
-fn merged(two: u8) -> u8
-    ensures value { result ≡ cond (eqb two 0) 0 1 }
-    ensures small { result ≤ 1 }
+// Whether a grantor of this level may grant the permission that the number stands for.
+pub fn enough(perm: u8, level: u8) -> bool
+    ensures { result ≡ leb (need (decoded perm)) level }
 {
-    if two == 0 { 0 } else { 1 }
+    suffices(level, Permission::decoded(perm))
 }
 
-// What a level leaves of the cell: nothing at 0, TF and FF alone at 1, all of it from 2 on.
+// What a level leaves of the cell: nothing at 0, TF and FF alone at 1, all of it from 2 on. A record that is lowered merges with its
+// equal, so two bits make one.
 pub fn restrict(c: u8, level: u8) -> u8
     ensures { result ≡ restrict_cell c level }
 {
-    if level == 0 {
-        return 0;
+    match level {
+        0 => 0,
+        1 => (c / 4 % 4).min(1) * 4 + (c % 4).min(1),
+        _ => c,
     }
-    if level == 1 {
-        return merged(c / 4 % 4) * 4 + merged(c % 4);
-    }
-    c
 }

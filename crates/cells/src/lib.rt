@@ -3,82 +3,72 @@
 // Bits are quotients and remainders by numerals, since the proofs read these and not masks.
 #![tactic(auto)]
 
-ghost use Rattle.std.specs.Prelude.{◌≡◌, ◌&&◌, ◌||◌, not, cond, ◌≤◌};
-ghost use Rattle.rights.specs.Permission.{is_code, decoded};
-ghost use Rattle.rights.specs.Cell.{has as has_record, size as cell_size, union as cell_union, without as cell_without};
+ghost use Rattle.std.specs.Prelude.{Bool, ◌≡◌, ◌&&◌, ◌||◌, not, cond, ◌≤◌};
+ghost use Rattle.rights.specs.declared.Permission.{Permission as Perm};
+ghost use Rattle.rights.specs.Permission.{is_code, decoded, code};
+ghost use Rattle.rights.specs.Cell.{cell_of, has as has_record, size as cell_size, union as cell_union, without as cell_without};
+
+use rights::Permission;
 
 // Whether the number is the code of a permission.
+#[tactic(auto, unfolding(rights::specs::Permission::is_code, rights::specs::Permission::any_permission, rights::specs::Permission::code))]
 pub fn is_code(perm: u8) -> bool
     ensures { result ≡ is_code perm }
 {
-    if perm == 8 {
-        return true;
-    }
-    if perm == 4 {
-        return true;
-    }
-    if perm == 2 {
-        return true;
-    }
-    perm == 1
+    matches!(perm, 8 | 4 | 2 | 1)
 }
 
-// Whether the record stands in the cell.
+// Whether the record of the permission stands in the cell.
+#[tactic(auto, unfolding(rights::specs::Cell::has, rights::specs::Permission::code))]
+pub fn stands(c: u8, perm: Permission) -> bool
+    ensures { result ≡ has_record c perm }
+{
+    match perm {
+        Permission::TT => c / 8 % 2 == 1,
+        Permission::TF => c / 4 % 2 == 1,
+        Permission::FT => c / 2 % 2 == 1,
+        Permission::FF => c % 2 == 1,
+    }
+}
+
+// Whether the record stands in the cell whose permission the number stands for.
 pub fn has(c: u8, perm: u8) -> bool
     ensures { result ≡ has_record c (decoded perm) }
 {
-    if perm == 8 {
-        return c / 8 % 2 == 1;
-    }
-    if perm == 4 {
-        return c / 4 % 2 == 1;
-    }
-    if perm == 2 {
-        return c / 2 % 2 == 1;
-    }
-    c % 2 == 1
+    stands(c, Permission::decoded(perm))
 }
 
-// The record's code, if it stands in either cell.
-fn in_either(a: u8, b: u8, perm: u8) -> u8
-    ensures value { result ≡ cond (has_record a (decoded perm) || has_record b (decoded perm)) perm 0 }
-    ensures small { result ≤ perm }
+// The number of a record that is to stand in a cell, and nothing for another.
+fn code_if(stands: bool, perm: Permission) -> u8
+    ensures value { result ≡ cond stands (code perm) 0 }
+    ensures small { result ≤ code perm }
 {
-    if has(a, perm) {
-        return perm;
-    }
-    if has(b, perm) {
-        return perm;
-    }
-    0
+    if stands { perm.code() } else { 0 }
+}
+
+// The cell of the permissions that pass the test.
+fn cell_of<F: Fn(Permission) -> bool>(test: F) -> u8
+    requires { F.IsAlwaysCallable test }
+    ensures { (passes : Perm → Bool) × ((p : Perm) → F.post test p (passes p)) × (result ≡ cell_of passes) }
+{
+    code_if(test(Permission::TT), Permission::TT)
+        + code_if(test(Permission::TF), Permission::TF)
+        + code_if(test(Permission::FT), Permission::FT)
+        + code_if(test(Permission::FF), Permission::FF)
 }
 
 // The records of either cell.
 pub fn union(a: u8, b: u8) -> u8
     ensures { result ≡ cell_union a b }
 {
-    in_either(a, b, 8) + in_either(a, b, 4) + in_either(a, b, 2) + in_either(a, b, 1)
-}
-
-// The record's code, if it stands in the first cell and not in the second.
-fn in_first(a: u8, b: u8, perm: u8) -> u8
-    ensures value { result ≡ cond (has_record a (decoded perm) && not (has_record b (decoded perm))) perm 0 }
-    ensures small { result ≤ perm }
-{
-    if has(a, perm) {
-        if has(b, perm) {
-            return 0;
-        }
-        return perm;
-    }
-    0
+    cell_of(|perm| stands(a, perm) || stands(b, perm))
 }
 
 // The records of the first cell that the second lacks.
 pub fn without(a: u8, b: u8) -> u8
     ensures { result ≡ cell_without a b }
 {
-    in_first(a, b, 8) + in_first(a, b, 4) + in_first(a, b, 2) + in_first(a, b, 1)
+    cell_of(|perm| stands(a, perm) && !stands(b, perm))
 }
 
 // How many records stand in the cell.

@@ -24,9 +24,10 @@ impl<'a> Register<'a> {
         ensures same { IfSome result (λ r. (r.header ≡ header) × (r.cells.now ≡ cells.now)) }
     {
         if readable(cells, header) {
-            return Some(Register { cells, header });
+            Some(Register { cells, header })
+        } else {
+            None
         }
-        None
     }
 
     // The cell of a grantor and a subject.
@@ -49,17 +50,11 @@ pub fn cell(cells: &[u8], header: Header, by: Office, to: Office) -> u8
 }
 
 // Whether n is in 2..128 and SOA below n: refusal 1 does not apply.
+#[tactic(auto, unfolding(rights::specs::Sound::headed))]
 pub fn headed(header: Header) -> bool
     ensures { result ≡ is_headed header }
 {
-    let n = header.n;
-    if n < 2 {
-        return false;
-    }
-    if 128 < n {
-        return false;
-    }
-    header.soa.0 < n
+    2 <= header.n && header.n <= 128 && header.soa.0 < header.n
 }
 
 // Whether there are as many bytes as cells: refusal 2 does not apply.
@@ -74,18 +69,13 @@ pub fn whole(cells: &[u8], header: Header) -> bool
 pub fn readable(cells: &[u8], header: Header) -> bool
     ensures { result ≡ is_readable header cells.now }
 {
-    if headed(header) {
-        return whole(cells, header);
-    }
-    false
+    headed(header) && whole(cells, header)
 }
 
 // Whether no grant may stand there: on the diagonal and in SOA's column.
+#[tactic(auto, unfolding(rights::specs::Sound::barred))]
 pub fn barred(header: Header, by: Office, to: Office) -> bool
     ensures { result ≡ is_barred header by.0 to.0 }
 {
-    if by.0 == to.0 {
-        return true;
-    }
-    to.0 == header.soa.0
+    by == to || to == header.soa
 }

@@ -1,75 +1,57 @@
 // Whether a register is sound, cell by cell: each is small, empty where no grant may stand, and within its grantor's level.
 #![tactic(auto)]
 
-ghost use Rattle.std.specs.Prelude.{◌≡◌, ◌≤◌, ◌<◌};
+ghost use Rattle.std.specs.Prelude.{◌≡◌, ◌<◌};
 ghost use Rattle.rights.specs.Below.{all_below};
+ghost use Rattle.rights.specs.Refusal.{answer_of};
 ghost use Rattle.rights.specs.Sound.{sound_cell, sound_by, register_refusal};
 
-use rights::{Header, Office};
+use registers::Register;
+use rights::{Header, Office, Refusal};
 
 // Whether the cell may stand as it is. An empty cell may stand anywhere.
-fn sound_cell(cells: &[u8], header: Header, levels: &[u8; 128], i: u16, j: u16) -> bool
+#[tactic(auto, using(crate::proofs::Standing::empty_stands), unfolding(rights::specs::Sound::sound_cell, rights::specs::Level::level_in))]
+fn sound_cell(register: &Register, levels: &[u8; 128], i: u16, j: u16) -> bool
     requires { i < 128 }
-    ensures { result ≡ sound_cell header cells.now levels.now i j }
+    ensures { result ≡ sound_cell register.now.header register.now.cells.now levels.now i j }
 {
-    let c = registers::cell(cells, header, Office(i), Office(j));
+    let c = register.cell(Office(i), Office(j));
     if c == 0 {
         return true;
     }
-    if 15 < c {
-        return false;
-    }
-    if registers::barred(header, Office(i), Office(j)) {
-        return false;
-    }
-    carrying::restrict(c, levels[i as usize]) == c
+    c <= 15
+        && !registers::barred(register.header, Office(i), Office(j))
+        && carrying::restrict(c, levels[i as usize]) == c
 }
 
 // Whether each cell of row i may stand.
-fn sound_row(cells: &[u8], header: Header, levels: &[u8; 128], i: u16) -> bool
+fn sound_row(register: &Register, levels: &[u8; 128], i: u16) -> bool
     requires { i < 128 }
-    ensures { result ≡ all_below header.n (sound_cell header cells.now levels.now i) }
+    ensures { result ≡ all_below register.now.header.n (sound_cell register.now.header register.now.cells.now levels.now i) }
 {
-    let n = header.n;
-    let mut j = 0;
-    while j < n {
-        if !sound_cell(cells, header, levels, i, j) {
-            return false;
-        }
-        j += 1;
-    }
-    true
+    (0..register.header.n).all(|j| sound_cell(register, levels, i, j))
 }
 
 // Whether each row may stand.
-fn sound_by(cells: &[u8], header: Header, levels: &[u8; 128]) -> bool
-    requires { header.n ≤ 128 }
-    ensures { result ≡ sound_by header cells.now levels.now }
+fn sound_by(register: &Register, levels: &[u8; 128]) -> bool
+    ensures { result ≡ sound_by register.now.header register.now.cells.now levels.now }
 {
-    let n = header.n;
-    let mut i = 0;
-    while i < n {
-        if !sound_row(cells, header, levels, i) {
-            return false;
-        }
-        i += 1;
-    }
-    true
+    (0..register.header.n).all(|i| sound_row(register, levels, i))
 }
 
-// The refusal of a register by itself: 1 for its header, 2 for its length, 3 where it is not sound, 0 for none.
-pub fn register_refusal(cells: &[u8], header: Header) -> u8
-    ensures { result ≡ register_refusal header cells.now }
+// The refusal of a register by itself: its header is none, its length another, or it is not sound.
+pub fn register_refusal(cells: &[u8], header: Header) -> Result<(), Refusal>
+    ensures { answer_of result ≡ register_refusal header cells.now }
 {
     if !registers::headed(header) {
-        return 1;
+        return Err(Refusal::NoHeader);
     }
-    if !registers::whole(cells, header) {
-        return 2;
+    let Some(register) = Register::of(cells, header) else {
+        return Err(Refusal::WrongLength);
+    };
+    if sound_by(&register, &levels::levels(cells, header)) {
+        Ok(())
+    } else {
+        Err(Refusal::Unsound)
     }
-    let levels = levels::levels(cells, header);
-    if sound_by(cells, header, &levels) {
-        return 0;
-    }
-    3
 }

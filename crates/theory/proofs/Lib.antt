@@ -2,6 +2,7 @@
 pub mod Once
 pub mod Tests
 pub mod Below
+pub mod Range
 pub mod Growth
 pub mod Cell
 pub mod Register

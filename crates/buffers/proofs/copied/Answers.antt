@@ -1,27 +1,9 @@
--- `buffers::copied` meets its contract. The loop's invariant: the bytes passed, and zeros after them. Assumes nothing.
-use Prim.Native.Nat.{◌<◌, min}
-use native.Mathlib.Omega.{arith}
-use mathlib.Core.Path.{◌≡◌, refl, ap, ◌∙◌}
-use lib.ListN.{length}
-use Rattle.buffers.specs.Copy.{copy_of}
-use Rattle.buffers.proofs.Copy.{copied_to, copy_more, copy_end}
+-- `buffers::copied` meets its contract: the bytes that there is room for, and the zeros that the array had behind them.
+use mathlib.Core.Path.{ap, ◌∙◌}
+use mathlib.Core.List.{◌++◌}
+use lib.ListN.{drop, replicate}
+use Rattle.buffers.proofs.Copy.{copy_start_of}
 use Rattle.buffers.proofs.copied.Goals as goal
 
-pub loop-k-init : goal.loop-k-init
-unfolding copied_to
-loop-k-init c = (omega arith, refl)
-
-pub loop-k-preserved : goal.loop-k-preserved
-loop-k-preserved c =
-    let k = c.loop-k.k in
-    let a = c.args.cells.now in
-    let l : k < length a = omega arith in
-    let f : k < 16384 = omega arith in
-    (omega arith, rw c.loop-k.invariant.1 (copy_more 16384 a k l f))
-
 pub returns : goal.returns
-unfolding copy_of
-returns c =
-    let a = c.args.cells.now in
-    let e : c.loop-k.k ≡ min (length a) 16384 = omega arith in
-    c.loop-k.invariant.1 ∙ ap (copied_to 16384 a) e ∙ copy_end 16384 a
+returns c = ap (λ l. l ++ drop c.min-end.result (replicate 16384 0)) c.copy_from_slice.ensures.after ∙ copy_start_of c.args.cells.now _ c.min-end.ensures

@@ -1,18 +1,16 @@
--- `carrying::restrict` meets its contract, level by level. Assumes nothing.
+-- `carrying::restrict` meets its contract, level by level.
 use native.Mathlib.Omega.{arith}
 use mathlib.Core.Path.{sym}
 use Rattle.rights.specs.Cell.{restrict}
 use Rattle.carrying.proofs.Carried.{restrict_high, lowered_bits}
 use Rattle.carrying.proofs.restrict.Goals as goal
 
-pub returns-then-level-eq0 : goal.returns-then-level-eq0
+pub returns-in-0 : goal.returns-in-0
 unfolding restrict
-returns-then-level-eq0 c = rw c.if-level-eq0.true
+returns-in-0 c = rw c.in-0.is
 
-pub returns-then-level-eq1 : goal.returns-then-level-eq1
-returns-then-level-eq1 c =
-    rw (c.if-level-eq1.true, c.merged.ensures.value, c.merged-then-level-eq1.ensures.value)
-    (lowered_bits c.args.c (omega arith))
+pub returns-in-1 : goal.returns-in-1
+returns-in-1 c = rw (c.in-1.is, c.min.ensures, c.min-in-1.ensures) (lowered_bits c.args.c (omega arith))
 
-pub returns : goal.returns
-returns c = sym (restrict_high _ _ c.if-level-eq0.false c.if-level-eq1.false)
+pub returns-in_default : goal.returns-in_default
+returns-in_default c = sym (restrict_high _ _ (omega arith))

@@ -1,12 +1,10 @@
--- `cells::union` meets its contract: the sum of four codes is the cell of a test. Assumes nothing.
-use Prim.Native.Nat.{◌+◌}
-use mathlib.Core.Path.{ap₂}
-use Rattle.rights.specs.Permission.{decoded}
-use Rattle.rights.specs.Cell.{union, cell_of}
+-- `cells::union` meets its contract, by what the test gives of each permission.
+use Rattle.std.proofs.Common.{rules}
+use mathlib.Core.Path.{◌∙◌}
+use Rattle.rights.specs.Cell.{union}
+use Rattle.theory.proofs.Cell.{cell_of_ext}
 use Rattle.cells.proofs.union.Goals as goal
 
 pub returns : goal.returns
-unfolding union cell_of decoded
-returns c =
-    ap₂ ◌+◌ (ap₂ ◌+◌ (ap₂ ◌+◌ c.in_either.ensures.value c.in_either-2.ensures.value)
-    c.in_either-3.ensures.value) c.in_either-4.ensures.value
+unfolding union
+returns c = let e = c.cell_of.ensures in e.2 ∙ cell_of_ext _ _ (λ p. let t = e.1 p in search rules)

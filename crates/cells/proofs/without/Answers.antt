@@ -1,12 +1,10 @@
--- `cells::without` meets its contract: the sum of four codes is the cell of a test. Assumes nothing.
-use Prim.Native.Nat.{◌+◌}
-use mathlib.Core.Path.{ap₂}
-use Rattle.rights.specs.Permission.{decoded}
-use Rattle.rights.specs.Cell.{without, cell_of}
+-- `cells::without` meets its contract, by what the test gives of each permission.
+use Rattle.std.proofs.Common.{rules}
+use mathlib.Core.Path.{◌∙◌}
+use Rattle.rights.specs.Cell.{without}
+use Rattle.theory.proofs.Cell.{cell_of_ext}
 use Rattle.cells.proofs.without.Goals as goal
 
 pub returns : goal.returns
-unfolding without cell_of decoded
-returns c =
-    ap₂ ◌+◌ (ap₂ ◌+◌ (ap₂ ◌+◌ c.in_first.ensures.value c.in_first-2.ensures.value)
-    c.in_first-3.ensures.value) c.in_first-4.ensures.value
+unfolding without
+returns c = let e = c.cell_of.ensures in e.2 ∙ cell_of_ext _ _ (λ p. let t = e.1 p in search rules)

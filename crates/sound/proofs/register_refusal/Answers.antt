@@ -1,30 +1,22 @@
--- `sound::register_refusal` meets its contract: the refusals are tried in their order. Assumes nothing.
-use mathlib.Core.Path.{sym, ◌∙◌}
+-- `sound::register_refusal` meets its contract: the refusals are tried in their order.
+use mathlib.Core.Path.{sym, ap₂, ◌∙◌}
 use mathlib.Core.Bool.{true, false}
-use Rattle.levels.proofs.Given.{readable-header}
-use Rattle.sound.proofs.Standing.{read, refused_1, refused_2, refused_3}
+use Rattle.rights.specs.Sound.{readable, sound_by}
+use Rattle.sound.proofs.Standing.{refused_1, refused_2, refused_3}
 use Rattle.sound.proofs.register_refusal.Goals as goal
 
 pub returns-then-not-headed : goal.returns-then-not-headed
 returns-then-not-headed c = sym (refused_1 _ _ (sym c.headed.ensures ∙ c.if-not-headed.true))
 
-pub returns-then-not-whole : goal.returns-then-not-whole
-returns-then-not-whole c =
-    sym
-    (refused_2 _ _ (sym c.headed.ensures ∙ c.if-not-headed.false)
-    (sym c.whole.ensures ∙ c.if-not-whole.true))
-
-pub sound_by-requires : goal.sound_by-requires
-sound_by-requires c = (readable-header _ _ (read _ _ (sym c.headed.ensures ∙ c.if-not-headed.false) (sym c.whole.ensures ∙ c.if-not-whole.false))).0
+pub returns-in_default : goal.returns-in_default
+returns-in_default c = sym (refused_2 _ _ (sym c.headed.ensures ∙ c.if-not-headed.false) (sym c.in_default.ensures.there))
 
 pub returns-then-sound_by : goal.returns-then-sound_by
 returns-then-sound_by c =
-    sym
-    (refused_3 _ _ _ true (sym c.headed.ensures ∙ c.if-not-headed.false) (sym c.whole.ensures ∙ c.if-not-whole.false) c.levels-levels.ensures
-    (sym c.sound_by.ensures ∙ c.if-sound_by.true))
+    let same = c.in-Some.ensures.same in
+    sym (refused_3 _ _ _ true (sym c.in-Some.ensures.there) c.levels.ensures (rw (same.0, same.1) at (sym c.sound_by.ensures ∙ c.if-sound_by.true)))
 
-pub returns : goal.returns
-returns c =
-    sym
-    (refused_3 _ _ _ false (sym c.headed.ensures ∙ c.if-not-headed.false) (sym c.whole.ensures ∙ c.if-not-whole.false) c.levels-levels.ensures
-    (sym c.sound_by.ensures ∙ c.if-sound_by.false))
+pub returns-else-sound_by : goal.returns-else-sound_by
+returns-else-sound_by c =
+    let same = c.in-Some.ensures.same in
+    sym (refused_3 _ _ _ false (sym c.in-Some.ensures.there) c.levels.ensures (rw (same.0, same.1) at (sym c.sound_by.ensures ∙ c.if-sound_by.false)))

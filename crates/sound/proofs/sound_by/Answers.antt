@@ -1,31 +1,22 @@
--- `sound::sound_by` meets its contract. The loop's invariant: each row passed may stand. Assumes nothing.
-use Prim.Native.Nat.{◌<◌}
-use native.Mathlib.Omega.{arith}
-use mathlib.Core.Path.{◌≡◌, refl, sym}
-use Rattle.rights.specs.Below.{all_below}
+-- `sound::sound_by` meets its contract: each row is asked.
+use Rattle.std.proofs.Common.{rules, tests, refl, arith}
+use Rattle.std.proofs.lemmas.Iterator.{YieldsList-from_range, serves_from_Range}
 use Rattle.rights.specs.Sound.{sound_by}
-use Rattle.levels.proofs.Loops.{all_more, one_fails}
+use Rattle.theory.proofs.Range.{all_over}
+use Rattle.levels.proofs.Given.{readable-header}
 use Rattle.sound.proofs.Standing.{sound_row}
 use Rattle.sound.proofs.sound_by.Goals as goal
 
-pub loop-i-init : goal.loop-i-init
-unfolding all_below
-loop-i-init c = (omega arith, refl)
-
-pub returns-then-not-sound_row : goal.returns-then-not-sound_row
-unfolding sound_by sound_row
-returns-then-not-sound_row c =
-    let l : c.loop-i.i < c.args.header.n = omega arith in
-    sym (one_fails _ _ _ l (rw c.sound_row.ensures at c.if-not-sound_row.true))
-
-pub loop-i-preserved : goal.loop-i-preserved
-unfolding sound_row
-loop-i-preserved c = (
-  omega arith,
-  all_more _ _ c.loop-i.invariant.1 (rw c.sound_row.ensures at c.if-not-sound_row.false),
-)
+pub all-requires-clause-callable : goal.all-requires-clause-callable
+all-requires-clause-callable c =
+    let r = c.args.register.now in
+    let high = (readable-header r.header r.cells.now r.is_readable).0 in
+    serves_from_Range (λ x q k. search (rules, tests)) (λ x low below. omega (arith, high))
 
 pub returns : goal.returns
 unfolding sound_by sound_row
 returns c =
-    let e : c.loop-i.i ≡ c.args.header.n = omega arith in sym (rw e at c.loop-i.invariant.1)
+    let r = c.args.register.now in
+    all_over r.header.n (sound_row r.header r.cells.now c.args.levels.now) _ _ _ c.all.ensures.ran
+    (YieldsList-from_range 0 r.header.n r.header.n refl (omega arith))
+    (λ x b q k. search (rules, tests))

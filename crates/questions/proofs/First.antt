@@ -24,10 +24,10 @@ module _ (n : ℕ) (f : ℕ → Bool) where
   first_after m within before =
       ⊎_elim
       (λ (e : any_below n f ≡ true).
-          ⊎_elim
-          (λ (early : first_below n f < m). clash (first-at n f e) (before (first_below n f) early))
-          (λ (late : m ≤ first_below n f). late)
-          (below_or_not (first_below n f) m))
+      ⊎_elim
+      (λ (early : first_below n f < m). clash (first-at n f e) (before (first_below n f) early))
+      (λ (late : m ≤ first_below n f). late)
+      (below_or_not (first_below n f) m))
       (λ (e : any_below n f ≡ false). let none = first-none n f e in omega arith)
       (decided (any_below n f))
 

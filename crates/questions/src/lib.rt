@@ -46,7 +46,9 @@ fn first_into(register: &Register, perm: Permission, set: &[bool; 128], x: u16) 
     ensures { result ≡ first_below register.now.header.n (link_into register.now.header register.now.cells.now perm set.now x) }
 {
     let n = register.header.n;
-    (0..n).find(|&y| link_into(register, perm, set, x, y)).unwrap_or(n)
+    (0..n)
+        .find(|&y| link_into(register, perm, set, x, y))
+        .unwrap_or(n)
 }
 
 // The offices with a link into the set: one link nearer SOA.

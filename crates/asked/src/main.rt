@@ -67,8 +67,8 @@ fn ask(rt: &impl Print, (cells, n, office, perm): Question<'_>) -> io::Result<()
         "answer={} offices={} chain={}",
         held.answer, held.offices, chain[0]
     )?;
-    for office in &chain[1..] {
-        print!(rt; ",{office}")?;
+    for next in &chain[1..] {
+        print!(rt; ",{next}")?;
     }
     println!(rt)
 }

@@ -52,6 +52,7 @@ const UNSOUND: [u8; 9] = [
 const EMPTY: [u8; 49] = [0u8; 49];
 
 // A register's cells and how many offices its header says, the office asked for, and the number of the permission.
+// Kept: a number for the permission, since `holding` takes every number and one question asks for 3, which is none.
 type Question<'a> = (&'a [u8], u16, u16, u8);
 
 // A question to a register whose SOA is office 0. No office here is 9, so a byte that stays is seen to stay.
@@ -97,7 +98,7 @@ fn ask_soa(rt: &impl Print, cells: &[u8], n: u16) -> io::Result<()> {
     Ok(())
 }
 
-// One question for each refusal, in their order. 3 is the number of no permission.
+// One question for each refusal, in their order.
 fn ask_refused(rt: &impl Print) -> io::Result<()> {
     let questions: [Question<'_>; 7] = [
         (&A, 1, 4, TF.code()),

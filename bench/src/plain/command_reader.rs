@@ -5,8 +5,8 @@ use super::lines::LineKind;
 use super::numbers::LineRead;
 use super::rights::{Command, Layer, Office};
 
-#[derive(Clone, Copy, Debug, PartialEq, Eq)]
 #[repr(C)]
+#[derive(Clone, Copy, Debug, PartialEq, Eq)]
 pub struct CommandRead {
     pub answer: u8,
     pub at: usize,

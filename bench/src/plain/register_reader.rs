@@ -6,8 +6,8 @@ use super::records::RecordsRead;
 use super::rights::{Header, Layer, Office};
 use super::{buffers, lines, records, registers, sound};
 
-#[derive(Clone, Copy, Debug, PartialEq, Eq)]
 #[repr(C)]
+#[derive(Clone, Copy, Debug, PartialEq, Eq)]
 pub struct RegisterRead {
     pub answer: u8,
     pub at: usize,

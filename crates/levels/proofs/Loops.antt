@@ -1,4 +1,4 @@
--- A loop that tests one number after the other, as far as it has come: a test of those below i. Assumes nothing.
+-- A loop that tests one number after the other, as far as it has come: a test of those below i.
 use Prim.Native.Nat.{ℕ, ◌+◌, ◌<◌}
 use native.Mathlib.Numerals.{add-one}
 use mathlib.Core.Path.{◌≡◌}

@@ -1,4 +1,4 @@
--- Laws of arrays made up to 128 entries, which a loop fills from the front. Assumes nothing.
+-- Laws of arrays made up to 128 entries, which a loop fills from the front.
 use Prim.Native.Nat.{ℕ, zero, suc, ◌+◌, ◌-◌, ◌≤◌, ◌<◌}
 use native.Mathlib.Numerals.{add-one}
 use native.Mathlib.Omega.{arith}

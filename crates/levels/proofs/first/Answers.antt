@@ -1,10 +1,9 @@
--- `levels::first` meets its contract. Assumes nothing.
-use native.Mathlib.Omega.{arith}
-use Rattle.levels.proofs.Rounds.{first-none, first_soa}
+-- `levels::first` meets its contract: SOA's mark is the one that is set.
+use Rattle.registers.proofs.Bounds.{readable_high, readable_inside}
+use Rattle.levels.proofs.Rounds.{first_marks}
 use Rattle.levels.proofs.first.Goals as goal
 
-pub returns-then-soa-out : goal.returns-then-soa-out
-returns-then-soa-out c = first-none c.args.header _ (omega arith) c.if-soa-out.true
-
 pub returns : goal.returns
-returns c = first_soa c.args.header _ (omega arith) (omega arith) c.if-soa-out.false
+returns c =
+    let r = c.args.register.now in
+    first_marks r.header c.args.out (readable_high r.header r.cells.now r.is_readable) (readable_inside r.header r.cells.now r.is_readable)

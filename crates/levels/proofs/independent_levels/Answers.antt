@@ -1,16 +1,14 @@
--- `levels::independent_levels` meets its contract. Assumes nothing.
+-- `levels::independent_levels` meets its contract.
 use mathlib.Core.Path.{sym, ◌∙◌}
 use Rattle.levels.specs.Padded.{padded, padded_independent}
-use Rattle.levels.proofs.Given.{readable-header}
+use Rattle.levels.proofs.Given.{independent_read}
 use Rattle.levels.proofs.independent_levels.Goals as goal
 
-pub levels_without-requires : goal.levels_without-requires
-levels_without-requires c = readable-header _ _ (sym c.readable.ensures ∙ c.if-readable.true)
+pub returns-in-Some : goal.returns-in-Some
+returns-in-Some c =
+    let same = c.in-Some.ensures.same in
+    (rw (same.0, same.1) at c.levels_without.ensures) ∙ sym (independent_read _ _ _ (sym c.in-Some.ensures.there))
 
-pub returns-then-readable : goal.returns-then-readable
-unfolding padded_independent
-returns-then-readable c = rw (sym c.readable.ensures ∙ c.if-readable.true, c.levels_without.ensures)
-
-pub returns : goal.returns
+pub returns-in-None : goal.returns-in-None
 unfolding padded_independent padded
-returns c = rw (sym c.readable.ensures ∙ c.if-readable.false)
+returns-in-None c = rw (sym c.in-None.ensures.there)

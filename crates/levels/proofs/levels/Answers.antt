@@ -1,19 +1,17 @@
--- `levels::levels` meets its contract: n is the number of no office. Assumes nothing.
+-- `levels::levels` meets its contract: n is the number of no office.
 use native.Mathlib.Omega.{arith}
-use mathlib.Core.Path.{ap, sym, ◌∙◌}
+use mathlib.Core.Path.{sym, ap, ◌∙◌}
 use Rattle.levels.specs.Padded.{padded, padded_levels}
-use Rattle.levels.proofs.Given.{nobody_out, readable-header}
+use Rattle.levels.proofs.Given.{levels_read, nobody_out}
 use Rattle.levels.proofs.levels.Goals as goal
 
-pub levels_without-requires : goal.levels_without-requires
-levels_without-requires c = readable-header _ _ (sym c.readable.ensures ∙ c.if-readable.true)
+pub returns-in-Some : goal.returns-in-Some
+returns-in-Some c =
+    let same = c.in-Some.ensures.same in
+    (rw (same.0, same.1) at c.levels_without.ensures)
+    ∙ ap (padded 0) (nobody_out _ _ _ (omega arith))
+    ∙ sym (levels_read _ _ (sym c.in-Some.ensures.there))
 
-pub returns-then-readable : goal.returns-then-readable
-unfolding padded_levels
-returns-then-readable c =
-    rw (sym c.readable.ensures ∙ c.if-readable.true)
-    (c.levels_without.ensures ∙ ap (padded 0) (nobody_out _ _ _ (omega arith)))
-
-pub returns : goal.returns
+pub returns-in-None : goal.returns-in-None
 unfolding padded_levels padded
-returns c = rw (sym c.readable.ensures ∙ c.if-readable.false)
+returns-in-None c = rw (sym c.in-None.ensures.there)

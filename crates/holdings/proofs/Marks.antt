@@ -1,4 +1,4 @@
--- Levels made up to 128 entries serve as the levels themselves. Assumes nothing.
+-- Levels made up to 128 entries serve as the levels themselves.
 use Prim.Native.Nat.{ℕ}
 use mathlib.Core.Path.{◌≡◌, ap, fun_ext}
 use mathlib.Core.Bool.{Bool, true, false, ◌&&◌, ◌||◌, cond}

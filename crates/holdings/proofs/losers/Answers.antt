@@ -1,27 +1,20 @@
--- `holdings::losers` meets its contract. Assumes nothing.
+-- `holdings::losers` meets its contract.
 use mathlib.Core.Path.{sym, ◌∙◌}
 use Rattle.levels.specs.Padded.{padded}
-use Rattle.levels.proofs.Given.{readable-header}
 use Rattle.holdings.proofs.Marks.{losers_marked, none_before, none_after}
 use Rattle.holdings.proofs.losers.Goals as goal
 
-pub loser_marks-requires : goal.loser_marks-requires
-loser_marks-requires c =
-    (readable-header _ _ (sym c.readable-then-readable.ensures ∙ c.if-readable-2.true)).0
+pub returns-in-Some-Some : goal.returns-in-Some-Some
+returns-in-Some-Some c =
+    let same = c.in-Some-Some.ensures.same in
+    let same' = c.in-Some-Some.ensures'.same in
+    (rw (same.0, same.1, same.2, same'.1, same'.2) at c.losers.ensures)
+    ∙ losers_marked _ _ _ (sym c.in-Some-Some.ensures.there) (sym c.in-Some-Some.ensures'.there)
 
-pub returns-then-readable-2 : goal.returns-then-readable-2
-returns-then-readable-2 c =
-    let a = c.args in
-    rw (c.loser_marks.ensures, c.levels-before_levels.ensures, c.levels-after_levels.ensures)
-    (losers_marked a.header a.before.now a.after.now
-    (sym c.readable.ensures ∙ c.if-readable.true)
-    (sym c.readable-then-readable.ensures ∙ c.if-readable-2.true))
-
-pub returns-else-readable-2 : goal.returns-else-readable-2
+pub returns-in_default : goal.returns-in_default
 unfolding padded
-returns-else-readable-2 c =
-    sym (none_after _ _ _ (sym c.readable.ensures ∙ c.if-readable.true) (sym c.readable-then-readable.ensures ∙ c.if-readable-2.false))
+returns-in_default c = sym (none_after _ _ _ (sym c.in_default.ensures.there) (sym c.in_default.ensures'.there))
 
-pub returns-else-readable : goal.returns-else-readable
+pub returns-in_default-2 : goal.returns-in_default-2
 unfolding padded
-returns-else-readable c = sym (none_before _ _ _ (sym c.readable.ensures ∙ c.if-readable.false))
+returns-in_default-2 c = sym (none_before _ _ _ (sym c.in_default.ensures.there))

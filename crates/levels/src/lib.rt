@@ -36,7 +36,7 @@ fn marked_next(register: &Register, out: u16, perm: Permission, marks: &[bool; 1
 }
 
 // One round. It reads the marks as they were before it, so the new ones are an array of their own.
-#[tactic(auto, using(registers::proofs::Bounds::readable_high))]
+#[tactic(auto, using(registers::proofs::Bounds::readable_high, crate::proofs::Padded::filling))]
 fn round(register: &Register, out: u16, perm: Permission, marks: &[bool; 128]) -> [bool; 128]
     ensures { result ≡ padded false (marking register.now.header register.now.cells.now (other_than out) perm marks.now) }
 {
@@ -88,7 +88,7 @@ fn level_of(whole: bool, part: bool) -> u8
 }
 
 // The levels of n offices, from the sets of those that hold TT and TF.
-#[tactic(auto, unfolding(rights::specs::Level::is_in))]
+#[tactic(auto, using(crate::proofs::Padded::filling), unfolding(rights::specs::Level::is_in))]
 fn levels_by(n: u16, whole: &[bool; 128], part: &[bool; 128]) -> [u8; 128]
     requires { n ≤ 128 }
     ensures { result ≡ padded 0 (table n (level_by whole.now part.now)) }
@@ -111,6 +111,7 @@ fn levels_without(register: &Register, out: u16) -> [u8; 128]
 }
 
 // The level of each office, and 0 after them; 0 for all where the header or the length is refused.
+#[tactic(auto, unfolding(crate::specs::Padded::padded_levels, crate::specs::Padded::padded))]
 pub fn levels(cells: &[u8], header: Header) -> [u8; 128]
     ensures { result ≡ padded_levels header cells.now }
 {
@@ -122,6 +123,7 @@ pub fn levels(cells: &[u8], header: Header) -> [u8; 128]
 
 // The level of each office by chains that do not name the given one, and 0 after them; 0 for all where the header or the length
 // is refused.
+#[tactic(auto, unfolding(crate::specs::Padded::padded_independent, crate::specs::Padded::padded))]
 pub fn independent_levels(cells: &[u8], header: Header, office: Office) -> [u8; 128]
     ensures { result ≡ padded_independent header cells.now office.0 }
 {

@@ -11,7 +11,3 @@ returns-in-Some c =
     (rw (same.0, same.1) at c.levels_without.ensures)
     ∙ ap (padded 0) (nobody_out _ _ _ (omega arith))
     ∙ sym (levels_read _ _ (sym c.in-Some.ensures.there))
-
-pub returns-in-None : goal.returns-in-None
-unfolding padded_levels padded
-returns-in-None c = rw (sym c.in-None.ensures.there)

@@ -48,7 +48,7 @@ fn round(register: &Register, out: u16, perm: Permission, marks: &[bool; 128]) -
 }
 
 // The marks before the first round: SOA alone, or nobody where SOA is left out.
-#[tactic(auto, using(registers::proofs::Bounds::readable_high, registers::proofs::Bounds::readable_inside))]
+#[tactic(auto, using(registers::proofs::Bounds::readable_high, registers::proofs::Bounds::readable_inside, crate::proofs::Rounds::first_marks))]
 fn first(register: &Register, out: u16) -> [bool; 128]
     ensures { result ≡ padded false (table register.now.header.n (marked_first register.now.header (other_than out))) }
 {
@@ -111,7 +111,7 @@ fn levels_without(register: &Register, out: u16) -> [u8; 128]
 }
 
 // The level of each office, and 0 after them; 0 for all where the header or the length is refused.
-#[tactic(auto, unfolding(crate::specs::Padded::padded_levels, crate::specs::Padded::padded))]
+#[tactic(auto, using(crate::proofs::Given::nobody_out), unfolding(crate::specs::Padded::padded_levels, crate::specs::Padded::padded))]
 pub fn levels(cells: &[u8], header: Header) -> [u8; 128]
     ensures { result ≡ padded_levels header cells.now }
 {

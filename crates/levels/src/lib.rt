@@ -60,6 +60,7 @@ fn first(register: &Register, out: u16) -> [bool; 128]
 
 // The offices that chains reach with the permission read at each link, none of them over the office left out.
 // A round that adds nothing is the last: no later one would add anything.
+#[tactic(auto, using(crate::proofs::Rounds::marks_first, crate::proofs::Rounds::marks_next))]
 fn reached(register: &Register, out: u16, perm: Permission) -> [bool; 128]
     ensures { result ≡ padded false (reached_by register.now.header register.now.cells.now (other_than out) perm register.now.header.n) }
 {
@@ -101,7 +102,7 @@ fn levels_by(n: u16, whole: &[bool; 128], part: &[bool; 128]) -> [u8; 128]
 }
 
 // The levels by chains that do not name one office. A number of no office leaves nobody out, so this serves both questions below.
-#[tactic(auto, using(registers::proofs::Bounds::readable_high))]
+#[tactic(auto, using(registers::proofs::Bounds::readable_high, crate::proofs::Given::levels_by_marks), unfolding(crate::proofs::Rounds::marks_after))]
 fn levels_without(register: &Register, out: u16) -> [u8; 128]
     ensures { result ≡ padded 0 (independent_levels register.now.header register.now.cells.now out) }
 {

@@ -6,18 +6,12 @@ use Rattle.std.proofs.lemmas.Slice.Eq.{slice_eq-Decides}
 use Rattle.levels.proofs.Rounds.{marks_after, marks_first, marks_next, marks_rest}
 use Rattle.levels.proofs.reached.Goals as goal
 
-pub loop-round-init : goal.loop-round-init
-loop-round-init c = c.first-marks.ensures ∙ marks_first _ _ _ _
-
 pub returns-then-eq : goal.returns-then-eq
 unfolding marks_after
 returns-then-eq c =
     let i = c.loop-round.invariant in
     let same = (slice_eq-Decides booleans_Decides c.round-next.result c.loop-round.marks _ c.eq.ensures).0 c.if-eq.true in
     i ∙ marks_rest _ _ _ _ _ (omega arith) (rw (c.round-next.ensures, i) at same)
-
-pub loop-round-preserved : goal.loop-round-preserved
-loop-round-preserved c = rw (c.round-next.ensures, c.loop-round.invariant) (marks_next _ _ _ _ _)
 
 pub returns : goal.returns
 unfolding marks_after

@@ -60,7 +60,7 @@ fn first(register: &Register, out: u16) -> [bool; 128]
 
 // The offices that chains reach with the permission read at each link, none of them over the office left out.
 // A round that adds nothing is the last: no later one would add anything.
-#[tactic(auto, using(crate::proofs::Rounds::marks_first, crate::proofs::Rounds::marks_next))]
+#[tactic(auto, using(crate::proofs::Rounds::marks_first, crate::proofs::Rounds::marks_next), unfolding(crate::proofs::Rounds::marks_after))]
 fn reached(register: &Register, out: u16, perm: Permission) -> [bool; 128]
     ensures { result ≡ padded false (reached_by register.now.header register.now.cells.now (other_than out) perm register.now.header.n) }
 {

@@ -12,9 +12,3 @@ returns-then-eq c =
     let i = c.loop-round.invariant in
     let same = (slice_eq-Decides booleans_Decides c.round-next.result c.loop-round.marks _ c.eq.ensures).0 c.if-eq.true in
     i ∙ marks_rest _ _ _ _ _ (omega arith) (rw (c.round-next.ensures, i) at same)
-
-pub returns : goal.returns
-unfolding marks_after
-returns c =
-    let e : c.loop-round._round ≡ c.args.register.now.header.n = omega arith in
-    rw e at c.loop-round.invariant

@@ -44,6 +44,7 @@ impl<'a> Levelled<'a> {
     }
 
     // Whether y holds the permission: SOA does, and whoever has a grantor that passes it on.
+    #[tactic(auto, unfolding(rights::specs::Level::holds_by))]
     fn holds(&self, perm: Permission, y: u16) -> bool
         ensures { result ≡ holds_by self.now.register.header self.now.register.cells.now self.now.levels perm y }
     {
@@ -76,7 +77,7 @@ impl<'a> Change<'a> {
     }
 
     // 1 for each office that holds fewer permissions than before, and 0 for the others and after them.
-    #[tactic(auto, using(registers::proofs::Bounds::readable_high))]
+    #[tactic(auto, using(registers::proofs::Bounds::readable_high, levels::proofs::Padded::filling, crate::proofs::Marks::byte_of), unfolding(crate::specs::Loser::mark_by))]
     fn losers(&self) -> [u8; 128]
         ensures { let b = self.now.before in let a = self.now.after in result ≡ padded 0 (table b.register.header.n (mark_by b.register.header b.register.cells.now b.levels a.register.cells.now a.levels)) }
     {
@@ -89,6 +90,7 @@ impl<'a> Change<'a> {
 }
 
 // The offices that hold fewer permissions after than before, each marked 1; nobody where either register cannot be read.
+#[tactic(auto, using(crate::proofs::Marks::losers_marked, crate::proofs::Marks::none_before, crate::proofs::Marks::none_after), unfolding(levels::specs::Padded::padded))]
 pub fn losers(before: &[u8], after: &[u8], header: Header) -> [u8; 128]
     ensures { result ≡ padded_losers header before.now after.now }
 {

@@ -1,9 +1,9 @@
 -- `levels::reached` meets its contract. The loop's invariant: the marks are those after so many rounds.
 use native.Mathlib.Omega.{arith}
-use mathlib.Core.Path.{◌≡◌, ◌∙◌}
+use mathlib.Core.Path.{◌∙◌}
 use Rattle.std.specs.Cmp.{booleans_Decides}
 use Rattle.std.proofs.lemmas.Slice.Eq.{slice_eq-Decides}
-use Rattle.levels.proofs.Rounds.{marks_after, marks_first, marks_next, marks_rest}
+use Rattle.levels.proofs.Rounds.{marks_after, marks_rest}
 use Rattle.levels.proofs.reached.Goals as goal
 
 pub returns-then-eq : goal.returns-then-eq

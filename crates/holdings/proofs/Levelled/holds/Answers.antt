@@ -1,7 +1,7 @@
 -- `holdings::Levelled::holds` meets its contract: SOA is known at once, and for another each grantor is asked.
 use Rattle.std.proofs.Common.{rules, tests, refl, arith}
 use Rattle.std.proofs.lemmas.Iterator.{YieldsList-from_range, serves_from_Range}
-use borrow.Author.Tests.{eq-eqb, ne_eqb}
+use borrow.Author.Tests.{ne_eqb}
 use Rattle.rights.specs.Level.{holds_by, passes_on}
 use Rattle.theory.proofs.Range.{any_over}
 use Rattle.registers.proofs.Bounds.{readable_high}
@@ -12,10 +12,6 @@ any-requires-clause-callable c =
     let r = c.args.self.now.register in
     let high = readable_high r.header r.cells.now r.is_readable in
     serves_from_Range (λ x q k. search (rules, tests)) (λ x low below. omega (arith, high))
-
-pub returns-then-y-self : goal.returns-then-y-self
-unfolding holds_by
-returns-then-y-self c = rw (eq-eqb _ _ c.if-y-self.true)
 
 pub returns-else-y-self : goal.returns-else-y-self
 unfolding holds_by

@@ -1,11 +1,8 @@
 //! The functions of `crates/records/src/lib.rt`.
 
-use super::buffers;
-use super::cells;
-use super::lines;
 use super::lines::LineKind;
-use super::registers;
 use super::rights::{Header, Office};
+use super::{buffers, cells, lines, registers};
 
 #[derive(Clone, Copy, Debug, PartialEq, Eq)]
 pub struct Record {

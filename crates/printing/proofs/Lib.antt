@@ -1,4 +1,5 @@
 -- What the proofs of several functions share.
-pub mod Put
+pub mod Adds
+pub mod Lines
 pub mod Told
 pub mod Unique

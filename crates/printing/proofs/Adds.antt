@@ -1,12 +1,16 @@
 -- Texts written one behind the other on a page.
-use Prim.Native.Nat.{ℕ, suc, ◌+◌, ◌≤◌}
+use Prim.Native.Nat.{ℕ, suc, ◌+◌, ◌≤◌, ◌<◌}
 use native.Mathlib.Nat.{add-zero}
 use native.Mathlib.Omega.{arith}
 use mathlib.Core.Path.{◌≡◌, refl, ap, sym, ◌∙◌}
-use mathlib.Core.List.{List, [], ◌∷◌, ◌++◌, append_assoc}
-use lib.ListN.{length, length-append}
-use lib.Seq.{sets, sets-eq, length-sets, drop-drop}
+use mathlib.Core.List.{List, [], ◌∷◌, ◌++◌, append-nil, append_assoc}
+use lib.ListN.{length, take, get_or, length-append}
+use lib.Seq.{sets, sets-eq, length-sets, take_all, drop-drop}
 use borrow.Rule.Slice.PartMut.{put_mid}
+use Rattle.std.specs.List.{flat_map}
+use Rattle.std.proofs.lemmas.List.{take_more}
+use Rattle.std.proofs.lemmas.List.Concat.{flat_map-append}
+use Rattle.std.proofs.lemmas.List.Folds.{length-flat_map-take}
 use Rattle.printing.specs.declared.Page.{Page}
 use Rattle.printing.specs.Page.{Fits, Adds}
 
@@ -43,3 +47,15 @@ fits_second {xs} ys p fits = record { enough = omega (arith, fits.enough, length
 -- a part of a room with the text in its place
 pub part_put : (at k : ℕ) (text room : List ℕ) → at + length text ≤ length room → k ≡ length text → put_mid at k room text ≡ sets room at text
 part_put at k text room fits e = rw e (simp (drop-drop, sets-eq text room at fits, append_assoc))
+
+-- things that are written one behind the other: one more, room for it, and all of them
+module _ {X : Type 0} (text : X → List ℕ) (xs : List X) (i : ℕ) {before between : Page} (so_far : Adds (flat_map text (take i xs)) before between) where
+  pub adds_more : {after : Page} (d : X) → i < length xs → Adds (text (get_or xs i d)) between after → Adds (flat_map text (take (i + 1) xs)) before after
+  adds_more d below p = rw (take_more xs i d below, flat_map-append, append-nil) (adds_both so_far p)
+
+  pub fits_more : (d : X) → i < length xs → Fits (flat_map text xs) before → Fits (text (get_or xs i d)) between
+  fits_more d below fits =
+      record { enough = omega (arith, fits.enough, so_far.ends, adds_length so_far, length-flat_map-take text xs i d below) }
+
+  pub adds_all : length xs ≤ i → Adds (flat_map text xs) before between
+  adds_all passed = rw (take_all i xs passed) at so_far

@@ -1,4 +1,4 @@
--- A line with a number of any size, and lines one behind the other.
+-- A line with a number of any size.
 use Rattle.std.specs.Prelude.{ℕ, List, [], ◌∷◌, ◌++◌}
 use Rattle.wording.specs.Word.{lf}
 use Rattle.wording.specs.Line.{numeral}
@@ -12,8 +12,3 @@ number_line key v = key ++ (numeral v ++ (lf ∷ []))
 -- a line as code has it
 abbrev pub line_bytes : Line → List ℕ
 line_bytes line = number_line line.0.now line.1
-
--- lines as code has them
-abbrev pub lines_bytes : List Line → List ℕ
-lines_bytes [] = []
-lines_bytes (line ∷ lines) = line_bytes line ++ lines_bytes lines

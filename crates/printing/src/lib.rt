@@ -3,11 +3,12 @@
 #![tactic(auto)]
 
 ghost use Rattle.std.specs.Prelude.{◌≡◌, [], ◌∷◌, ◌+◌, ◌<◌, length, MatchOption};
+ghost use Rattle.std.specs.List.{flat_map};
 ghost use Rattle.wording.specs.Line.{numeral};
 ghost use Rattle.wording.specs.Writer.{written_behind};
 ghost use Rattle.printing.specs.Told.{Told, IsWritten, written_of};
 ghost use Rattle.printing.specs.Page.{Fits, Adds};
-ghost use Rattle.printing.specs.NumberLine.{line_bytes, lines_bytes};
+ghost use Rattle.printing.specs.NumberLine.{line_bytes};
 
 use rights::Refusal;
 
@@ -110,7 +111,7 @@ pub fn write_bytes(text: &[u8], room: &mut [u8]) -> Written
 // How much of a room lines leave; nothing where they are longer. Each is held against what the one before it leaves, since the lengths
 // of slices may have no sum.
 fn left_behind(lines: &[Line], room: usize) -> Option<usize>
-    ensures { MatchOption result (room < length (lines_bytes lines.now)) (λ left. left + length (lines_bytes lines.now) ≡ room) }
+    ensures { MatchOption result (room < length (flat_map line_bytes lines.now)) (λ left. left + length (flat_map line_bytes lines.now) ≡ room) }
 {
     let mut left = room;
     for line in lines {
@@ -120,8 +121,8 @@ fn left_behind(lines: &[Line], room: usize) -> Option<usize>
 }
 
 // Writes lines at the start of a room, if there is room for them.
-fn put_lines(lines: &[Line], room: &mut [u8]) -> Result<usize, Refusal>
-    ensures { Told (written_behind 0 room.old (lines_bytes lines.now)) (written_of result) room.new }
+fn try_lines(lines: &[Line], room: &mut [u8]) -> Result<usize, Refusal>
+    ensures { Told (written_behind 0 room.old (flat_map line_bytes lines.now)) (written_of result) room.new }
 {
     left_behind(lines, room.len()).ok_or(Refusal::LittleRoom)?;
     let mut page = Page { room, at: 0 };
@@ -133,7 +134,7 @@ fn put_lines(lines: &[Line], room: &mut [u8]) -> Result<usize, Refusal>
 
 // Writes lines, if there is room for them.
 pub fn write_lines(lines: &[Line], room: &mut [u8]) -> Written
-    ensures { Told (written_behind 0 room.old (lines_bytes lines.now)) result room.new }
+    ensures { Told (written_behind 0 room.old (flat_map line_bytes lines.now)) result room.new }
 {
-    Written::from(put_lines(lines, room))
+    Written::from(try_lines(lines, room))
 }

@@ -1,11 +1,8 @@
--- `printing::line_size` meets its contract. Assumes nothing.
+-- `printing::Line::size` meets its contract.
 use native.Mathlib.Omega.{arith}
 use lib.ListN.{length-append}
 use Rattle.printing.specs.NumberLine.{number_line}
-use Rattle.printing.proofs.line_size.Goals as goal
-
-pub digits-requires : goal.digits-requires
-digits-requires c = tt
+use Rattle.printing.proofs.Line.size.Goals as goal
 
 pub returns : goal.returns
 unfolding number_line

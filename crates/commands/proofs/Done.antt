@@ -1,4 +1,4 @@
--- What a refused command answers and leaves, and what one that is carried out does. Assumes nothing.
+-- What a refused command answers and leaves, and what one that is carried out does.
 use Prim.Native.Nat.{ℕ}
 use mathlib.Core.Path.{◌≡◌, ◌∙◌}
 use mathlib.Core.Bool.{true}
@@ -7,11 +7,14 @@ use lib.ListN.{length, take}
 use borrow.Author.Tests.{eq-eqb, ne_eqb}
 use Rattle.rights.specs.declared.Header.{Header}
 use Rattle.rights.specs.declared.Command.{Command}
+use Rattle.rights.specs.declared.Refusal.{Refusal}
+use Rattle.rights.specs.Refusal.{number}
 use Rattle.rights.specs.Sound.{whole}
 use Rattle.rights.specs.Command.{refusal, carried_out, refused, done, outcome}
 use Rattle.theory.proofs.Tests.{both}
 use Rattle.theory.proofs.Ready.{Ready, whole_length}
 use Rattle.theory.proofs.Refusals.{command_passed}
+use Rattle.theory.proofs.Refusal.{number-nonzero}
 use Rattle.theory.proofs.Outcome.{outcome-done, outcome_ready}
 use Rattle.rows.specs.Whole.{if_whole}
 use Rattle.tally.specs.Missing.{missing_if_whole}
@@ -22,12 +25,12 @@ use Rattle.commands.specs.Post.{Answers}
 
 -- a refused command answers its refusal and leaves the register
 pub refused_as :
-    (h : Header) (R : List ℕ) (c : Command) {k : ℕ} → k ≡ refusal h R c → (k ≡ 0 → ⊥) →
-    Answers (outcome h R c) (record { answer = k; removed = 0; added = 0 }) R
+    (h : Header) (R : List ℕ) (c : Command) (r : Refusal) {k m l : ℕ} → number r ≡ refusal h R c → k ≡ number r → m ≡ 0 → l ≡ 0 →
+    Answers (outcome h R c) (record { answer = k; removed = m; added = l }) R
 unfolding outcome refused
-refused_as h R c e ne =
-    let applies = ne_eqb (refusal h R c) 0 (λ z. ne (e ∙ z)) in
-    record { answer = rw applies e; removed = rw applies; added = rw applies; cells = rw applies }
+refused_as h R c r e answer removed added =
+    let applies = ne_eqb (refusal h R c) 0 (λ z. number-nonzero r (e ∙ z)) in
+    record { answer = rw applies (answer ∙ e); removed = rw applies removed; added = rw applies added; cells = rw applies }
 
 module _ (h : Header) (R : List ℕ) (c : Command) (none : refusal h R c ≡ 0) where
   ready : Ready h R

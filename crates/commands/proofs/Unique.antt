@@ -1,4 +1,4 @@
--- No second outcome: at most one answer, tally and register satisfies each contract. Assumes nothing.
+-- No second outcome: at most one answer, tally and register satisfies each contract.
 use Prim.Native.Nat.{ℕ}
 use mathlib.Core.Path.{◌≡◌, sym, ◌∙◌}
 use mathlib.Core.List.{List}

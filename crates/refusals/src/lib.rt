@@ -1,99 +1,96 @@
-// Which refusal of a command applies first. Any register buffer, any header and any command may be given.
+// Which refusal of a command applies first, and the act of a command to which none applies. Any register buffer, any header and any
+// command may be given.
 #![tactic(auto)]
 
-ghost use Rattle.std.specs.Prelude.{◌≡◌, true, ◌&&◌, ◌<◌, ltb};
-ghost use Rattle.rights.specs.Sound.{readable};
+ghost use Rattle.std.specs.Prelude.{◌≡◌, ◌&&◌, ◌<◌, ltb, IfOk};
+ghost use Rattle.rights.specs.Act.{act_number};
+ghost use Rattle.rights.specs.Refusal.{answer_of};
+ghost use Rattle.rights.specs.Sound.{unless};
 ghost use Rattle.rights.specs.Command.{well_formed, grant_refusal, deletion_refusal, form_refusal, refusal as refusal_of};
 
-use rights::{Command, Header, Office};
+use registers::Register;
+use rights::{Act, Command, Header, Office, Permission, Refusal};
 
-// Whether the act is one, and perm is allowed for it.
-fn well_formed(command: Command) -> bool
-    ensures { result ≡ well_formed command }
+// Refusal 4: the act of a command is one, and the permission is allowed for it.
+#[tactic(auto, unfolding(rights::specs::Command::well_formed, rights::specs::Command::is_grant, rights::specs::Sound::unless))]
+fn well_formed(command: Command) -> Result<Act, Refusal>
+    ensures answer { answer_of result ≡ unless (well_formed command) 4 }
+    ensures act { IfOk result (λ act. act_number act ≡ command.act) }
 {
-    let act = command.act;
-    let perm = command.perm;
-    if act == 0 {
-        return cells::is_code(perm);
-    }
-    if act <= 4 {
-        return perm == 0;
-    }
-    false
+    let act = Act::try_from(command.act)?;
+    let allowed = match act {
+        Act::Grant => cells::is_code(command.perm),
+        _ => command.perm == 0,
+    };
+    if allowed { Ok(act) } else { Err(Refusal::NoCommand) }
 }
 
 // Whether both offices are in range.
 fn in_range(header: Header, by: Office, to: Office) -> bool
     ensures { result ≡ ltb by.0 header.n && ltb to.0 header.n }
 {
-    if by.0 < header.n {
-        return to.0 < header.n;
-    }
-    false
+    by.0 < header.n && to.0 < header.n
 }
 
 // Refusals 4 to 7, which read the header and the command alone.
-fn form_refusal(header: Header, command: Command) -> u8
-    ensures { result ≡ form_refusal header command }
+#[tactic(auto, unfolding(rights::specs::Command::form_refusal, rights::specs::Sound::first_of, rights::specs::Sound::unless))]
+fn form_refusal(header: Header, command: Command) -> Result<Act, Refusal>
+    ensures answer { answer_of result ≡ form_refusal header command }
+    ensures act { IfOk result (λ act. act_number act ≡ command.act) }
 {
-    if !well_formed(command) {
-        return 4;
+    let act = well_formed(command)?;
+    if command.layer != header.layer {
+        return Err(Refusal::OtherLayer);
     }
-    if command.layer.0 != header.layer.0 {
-        return 5;
+    if !in_range(header, command.by, command.to) {
+        return Err(Refusal::NoOffice);
     }
-    let by = command.by;
-    let to = command.to;
-    if !in_range(header, by, to) {
-        return 6;
+    if registers::barred(header, command.by, command.to) {
+        return Err(Refusal::Barred);
     }
-    if registers::barred(header, by, to) {
-        return 7;
-    }
-    0
+    Ok(act)
 }
 
 // Refusals 8 and 9, for grants: the grantor's level tells what it may grant.
-fn grant_refusal(cells: &[u8], header: Header, command: Command) -> u8
-    requires { (readable header cells.now ≡ true) × (command.by.0 < header.n) }
-    ensures { result ≡ grant_refusal header cells.now command }
+#[tactic(auto, using(crate::proofs::Refusals::granting), unfolding(rights::specs::Command::grant_refusal, rights::specs::Sound::first_of, rights::specs::Sound::unless))]
+fn grant_refusal(register: &Register, command: Command) -> Result<(), Refusal>
+    requires { command.by.0 < register.now.header.n }
+    ensures { answer_of result ≡ grant_refusal register.now.header register.now.cells.now command }
 {
-    let by = command.by;
-    let perm = command.perm;
-    let levels = levels::levels(cells, header);
-    if !carrying::enough(perm, levels[by.0 as usize]) {
-        return 8;
+    let perm = Permission::decoded(command.perm);
+    let levels = levels::levels(register.cells, register.header);
+    if !carrying::suffices(levels[command.by.0 as usize], perm) {
+        return Err(Refusal::NotEntitled);
     }
-    if cells::has(registers::cell(cells, header, by, command.to), perm) {
-        return 9;
+    if cells::stands(register.cell(command.by, command.to), perm) {
+        return Err(Refusal::Standing);
     }
-    0
+    Ok(())
 }
 
 // Refusal 10, for deletions.
-fn deletion_refusal(cells: &[u8], header: Header, command: Command) -> u8
-    ensures { result ≡ deletion_refusal header cells.now command }
+#[tactic(auto, unfolding(rights::specs::Command::deletion_refusal, rights::specs::Sound::unless))]
+fn deletion_refusal(register: &Register, command: Command) -> Result<(), Refusal>
+    ensures { answer_of result ≡ deletion_refusal register.now.header register.now.cells.now command }
 {
-    if registers::cell(cells, header, command.by, command.to) == 0 {
-        return 10;
+    if register.cell(command.by, command.to) == 0 {
+        return Err(Refusal::EmptyCell);
     }
-    0
+    Ok(())
 }
 
-// The first refusal that applies, 0 where none does.
-pub fn refusal(cells: &[u8], header: Header, command: Command) -> u8
-    ensures { result ≡ refusal_of header cells.now command }
+// The first refusal that applies, and the act that is to be carried out where none does.
+#[tactic(auto, unfolding(rights::specs::Command::refusal, rights::specs::Command::is_grant))]
+pub fn refusal(cells: &[u8], header: Header, command: Command) -> Result<Act, Refusal>
+    ensures answer { answer_of result ≡ refusal_of header cells.now command }
+    ensures act { IfOk result (λ act. act_number act ≡ command.act) }
 {
-    let register = sound::register_refusal(cells, header);
-    if register != 0 {
-        return register;
+    sound::register_refusal(cells, header)?;
+    let act = form_refusal(header, command)?;
+    let register = Register { cells, header };
+    match act {
+        Act::Grant => grant_refusal(&register, command)?,
+        _ => deletion_refusal(&register, command)?,
     }
-    let form = form_refusal(header, command);
-    if form != 0 {
-        return form;
-    }
-    if command.act == 0 {
-        return grant_refusal(cells, header, command);
-    }
-    deletion_refusal(cells, header, command)
+    Ok(act)
 }

@@ -1,4 +1,4 @@
--- What is true of a run at each turn: what is left to do gives what the whole run gives. Assumes nothing.
+-- What is true of a run at each turn: what is left to do gives what the whole run gives.
 use Prim.Native.Nat.{ℕ, suc, ◌+◌, ◌*◌, ◌≤◌, ◌<◌}
 use native.Mathlib.Omega.{arith}
 use native.Mathlib.Numerals.{add-one}
@@ -22,8 +22,9 @@ blank = record {
   answer = 0;
 }
 
-abbrev pub nothing_yet : Tally
-nothing_yet = record { removed = 0; added = 0 }
+-- nothing is counted yet
+abbrev pub Empty : Tally → Type 0
+Empty t = (t.removed ≡ 0) × (t.added ≡ 0)
 
 -- where a run stands once k of its entries are answered
 pub record Stand : Type 0 where
@@ -54,11 +55,8 @@ pub record Turn (h : Header) (R : List ℕ) (es : List Entry) (s : Stand) : Type
   pub removed_small : s.tally.removed ≤ s.k * 4294967296
   pub added_small : s.tally.added ≤ s.k * 4294967296
 
-abbrev pub begun : List ℕ → List Entry → Stand
-begun R es = record { k = 0; cells = R; entries = es; tally = nothing_yet }
-
-pub start : (h : Header) (R : List ℕ) (es : List Entry) → length es ≤ 256 → Turn h R es (begun R es)
-start h R es few = record {
+pub start : (h : Header) (R : List ℕ) (es : List Entry) (t : Tally) → Empty t → length es ≤ 256 → Turn h R es (standing 0 R es t)
+start h R es t empty few = record {
   few = few;
   within = omega arith;
   count = refl;
@@ -124,7 +122,9 @@ module _ (h : Header) (R : List ℕ) (es : List Entry) (s : Stand) (turn : Turn 
         entries = rw (ap (λ (x : Ending). x.entries) none, append-nil, take_all s.k s.entries (omega arith)) at turn.entries;
       })
 
-pub refused : (h : Header) (R : List ℕ) (es : List Entry) → 256 < length es → RanAs (run_outcome h R es) (record { answer = 16; tally = nothing_yet }) R es
+pub refused :
+    (h : Header) (R : List ℕ) (es : List Entry) (t : Tally) → Empty t → 256 < length es → {k : ℕ} → k ≡ 16 →
+    RanAs (run_outcome h R es) (record { answer = k; tally = t }) R es
 unfolding run_outcome untouched
-refused h R es many =
-    rw (lt-ltb 256 (length es) many) (record { answer = refl; removed = refl; added = refl; cells = refl; entries = refl })
+refused h R es t empty many answer =
+    rw (lt-ltb 256 (length es) many) (record { answer = answer; removed = empty.0; added = empty.1; cells = refl; entries = refl })

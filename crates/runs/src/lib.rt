@@ -5,7 +5,7 @@ ghost use Rattle.std.specs.Prelude.{◌≡◌};
 ghost use Rattle.rights.specs.Run.{run_outcome};
 ghost use Rattle.runs.specs.Post.{TakenIn, RanAs};
 
-use rights::{Command, Entry, Header, Ran, Tally};
+use rights::{Command, Entry, Header, Ran, Refusal, Tally};
 
 // One command is carried out, and its counts are taken into the tally.
 fn take_in(cells: &mut [u8], header: Header, command: Command, tally: Tally) -> Ran
@@ -23,20 +23,17 @@ fn take_in(cells: &mut [u8], header: Header, command: Command, tally: Tally) -> 
 pub fn run(cells: &mut [u8], header: Header, entries: &mut [Entry]) -> Ran
     ensures { RanAs (run_outcome header cells.old entries.old) result cells.new entries.new }
 {
-    let mut tally = Tally {
-        removed: 0,
-        added: 0,
-    };
+    let mut tally = Tally::default();
     if 256 < entries.len() {
-        return Ran { answer: 16, tally };
+        return Ran {
+            answer: Refusal::LongRun.number(),
+            tally,
+        };
     }
-    let mut k: usize = 0;
-    while k < entries.len() {
-        let e = &mut entries[k];
+    for e in entries.iter_mut() {
         let taken = take_in(cells, header, e.command, tally);
         e.answer = taken.answer;
         tally = taken.tally;
-        k += 1;
     }
     Ran { answer: 0, tally }
 }

@@ -1,5 +1,5 @@
 -- Answers by refusals: no refusal's number is 0, and no two have the same, so an answer's number is that of one answer.
-use Rattle.std.specs.Prelude.{ℕ, ◌<◌, ◌≡◌, ◌≢◌, List, [], ◌∷◌, get_or}
+use Rattle.std.specs.Prelude.{ℕ, ◌<◌, ◌≡◌, ◌≢◌, List, [], ◌∷◌, get_or, IfOk}
 use Rattle.std.specs.declared.result.Result.{Result}
 use Rattle.std.specs.declared.result.Result.TheVariants.{Ok, Err}
 use mathlib.Core.Path.{refl, sym, ap, ◌∙◌}
@@ -7,6 +7,9 @@ use native.Mathlib.Omega.{arith}
 use Rattle.rights.specs.declared.Refusal.{Refusal}
 use Rattle.rights.specs.declared.Refusal.TheVariants.{NoHeader, WrongLength, Unsound, NoCommand, OtherLayer, NoOffice, Barred, NotEntitled, Standing, EmptyCell, ShortChain, NotHeld, BadText, LittleRoom, LongInput, LongRun}
 use Rattle.rights.specs.Refusal.{number, answer_of}
+use Rattle.rights.specs.declared.Act.{Act}
+use Rattle.rights.specs.declared.Act.TheVariants.{Grant, WLD, WGD, SLD, SGD}
+use Rattle.rights.specs.Act.{act_number}
 use Rattle.rights.specs.Sound.{first_of, unless}
 use Rattle.theory.proofs.Once.{Once}
 use Rattle.theory.proofs.Refusals.{first_applies, first_passed}
@@ -72,9 +75,35 @@ refused_first r b e = sym (ap (λ k. first_of k b) (sym e) ∙ first_applies (nu
 pub passed_first : {a : ℕ} (b : ℕ) → 0 ≡ a → b ≡ first_of a b
 passed_first {a} b e = sym (first_passed a b (sym e))
 
--- a judgement by a number alone has no second outcome
+-- a judgement by a number has no second outcome where what it gives at Ok has none
+pub judged_once : {A : Type 0} (k : ℕ) {given : A → Type 0} → Once given → Once (λ (r : Result A Refusal). (answer_of r ≡ k) × IfOk r given)
+judged_once k once (Ok x) (Ok y) p q = ap Ok (once x y p.1 q.1)
+judged_once k once (Ok x) (Err s) p q = absurd (number-nonzero s (q.0 ∙ sym p.0))
+judged_once k once (Err r) (Ok y) p q = absurd (number-nonzero r (p.0 ∙ sym q.0))
+judged_once k once (Err r) (Err s) p q = ap Err (number-injective r s (p.0 ∙ sym q.0))
+
+-- a judgement by a number alone has none
 pub answer_once : (k : ℕ) → Once (λ (r : Result (Unit {0}) Refusal). answer_of r ≡ k)
 answer_once k (Ok x) (Ok y) p q = refl
 answer_once k (Ok x) (Err s) p q = absurd (number-nonzero s (q ∙ sym p))
 answer_once k (Err r) (Ok y) p q = absurd (number-nonzero r (p ∙ sym q))
 answer_once k (Err r) (Err s) p q = ap Err (number-injective r s (p ∙ sym q))
+
+-- the act of a number
+unfoldable act_at : ℕ → Act
+act_at k = get_or (Grant ∷ WLD ∷ WGD ∷ SLD ∷ SGD ∷ []) k Grant
+
+act_at-number : (act : Act) → act_at (act_number act) ≡ act
+unfolding act_at
+act_at-number Grant = refl
+act_at-number WLD = refl
+act_at-number WGD = refl
+act_at-number SLD = refl
+act_at-number SGD = refl
+
+-- no two acts have one number
+pub act_number-injective : (a b : Act) → act_number a ≡ act_number b → a ≡ b
+act_number-injective a b e = sym (act_at-number a) ∙ (ap act_at e ∙ act_at-number b)
+
+pub act_once : (k : ℕ) → Once (λ (act : Act). act_number act ≡ k)
+act_once k a b p q = act_number-injective a b (p ∙ sym q)

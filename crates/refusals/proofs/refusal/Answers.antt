@@ -1,28 +1,52 @@
--- `refusals::refusal` meets its contract. Assumes nothing.
+-- `refusals::refusal` meets its contract: the refusals are tried in their order.
+use Rattle.std.proofs.Common.{◌≡◌, rules}
 use mathlib.Core.Path.{sym, ◌∙◌}
-use borrow.Author.Tests.{eq-eqb, ne_eqb}
-use Rattle.rights.specs.Command.{refusal, is_grant}
-use Rattle.theory.proofs.Tests.{both}
-use Rattle.theory.proofs.Refusals.{first_applies, first_passed, register_ready, form_passed}
+use Rattle.rights.specs.Refusal.{number, answer_of}
+use Rattle.rights.specs.Command.{refusal}
+use Rattle.theory.proofs.Refusals.{form_passed}
+use Rattle.theory.proofs.Refusal.{refused_first, passed_first}
+use Rattle.refusals.proofs.Refusals.{can_be_read, grant_decides, deletion_decides}
 use Rattle.refusals.proofs.refusal.Goals as goal
 
-pub returns-then-register-ne0 : goal.returns-then-register-ne0
-unfolding refusal is_grant
-returns-then-register-ne0 c = c.register_refusal-register.ensures ∙ sym (first_applies _ _ (λ e. c.if-register-ne0.true (c.register_refusal-register.ensures ∙ e)))
+pub returns-in_err-register_refusal-clause-answer : goal.returns-in_err-register_refusal-clause-answer
+unfolding refusal
+returns-in_err-register_refusal-clause-answer c =
+    let same : answer_of c.from_residual.result ≡ number c.in_err-register_refusal.field-0.0 = search rules in
+    same ∙ refused_first _ _ c.in_err-register_refusal.ensures
 
-pub returns-then-form-ne0 : goal.returns-then-form-ne0
-unfolding refusal is_grant
-returns-then-form-ne0 c = c.form_refusal-form.ensures ∙ sym (first_passed _ _ (sym c.register_refusal-register.ensures ∙ c.if-register-ne0.false) ∙ first_applies _ _ (λ e. c.if-form-ne0.true (c.form_refusal-form.ensures ∙ e)))
+pub returns-in_err-act-clause-answer : goal.returns-in_err-act-clause-answer
+unfolding refusal
+returns-in_err-act-clause-answer c =
+    let same : answer_of c.from_residual-in_err-act.result ≡ number c.in_err-act.field-0.0 = search rules in
+    same ∙ (refused_first _ _ c.in_err-act.ensures.answer ∙ passed_first _ c.in_ok-register_refusal.ensures)
+
+pub invariant_of-register : goal.invariant_of-register
+invariant_of-register c = record { is_readable = can_be_read _ _ c.args.command c.in_ok-register_refusal.ensures }
 
 pub grant_refusal-requires : goal.grant_refusal-requires
-grant_refusal-requires c =
-    let ready = register_ready _ _ (sym c.register_refusal-register.ensures ∙ c.if-register-ne0.false) in
-    (both ready.headed ready.whole, (form_passed _ _ (sym c.form_refusal-form.ensures ∙ c.if-form-ne0.false)).by)
+grant_refusal-requires c = (form_passed _ _ (sym c.in_ok-act.ensures.answer)).by
 
-pub returns-then-command-eq0 : goal.returns-then-command-eq0
-unfolding refusal is_grant
-returns-then-command-eq0 c = c.grant_refusal.ensures ∙ sym (first_passed _ _ (sym c.register_refusal-register.ensures ∙ c.if-register-ne0.false) ∙ first_passed _ _ (sym c.form_refusal-form.ensures ∙ c.if-form-ne0.false) ∙ rw (eq-eqb _ _ c.if-command-eq0.true))
+pub returns-in_err-grant_refusal-in-Grant-clause-answer : goal.returns-in_err-grant_refusal-in-Grant-clause-answer
+returns-in_err-grant_refusal-in-Grant-clause-answer c =
+    let same : answer_of c.from_residual-in_err-grant_refusal-in-Grant.result ≡ number c.in_err-grant_refusal-in-Grant.field-0.0 = search rules in
+    let form = c.in_ok-act.ensures in
+    same ∙ grant_decides _ _ _ c.in_ok-register_refusal.ensures form.act form.answer c.in-Grant.is c.in_err-grant_refusal-in-Grant.ensures
 
-pub returns : goal.returns
-unfolding refusal is_grant
-returns c = c.deletion_refusal.ensures ∙ sym (first_passed _ _ (sym c.register_refusal-register.ensures ∙ c.if-register-ne0.false) ∙ first_passed _ _ (sym c.form_refusal-form.ensures ∙ c.if-form-ne0.false) ∙ rw (ne_eqb _ _ c.if-command-eq0.false))
+pub invariant_of-register-in_default : goal.invariant_of-register-in_default
+invariant_of-register-in_default c = record { is_readable = can_be_read _ _ c.args.command c.in_ok-register_refusal.ensures }
+
+pub returns-in_err-deletion_refusal-in_default-clause-answer : goal.returns-in_err-deletion_refusal-in_default-clause-answer
+returns-in_err-deletion_refusal-in_default-clause-answer c =
+    let same : answer_of c.from_residual-in_err-deletion_refusal-in_default.result ≡ number c.in_err-deletion_refusal-in_default.field-0.0 = search rules in
+    let form = c.in_ok-act.ensures in
+    same ∙ deletion_decides _ _ _ c.in_ok-register_refusal.ensures form.act form.answer c.in_default.not-Grant c.in_err-deletion_refusal-in_default.ensures
+
+pub returns-in_ok-grant_refusal-in-Grant-clause-answer : goal.returns-in_ok-grant_refusal-in-Grant-clause-answer
+returns-in_ok-grant_refusal-in-Grant-clause-answer c =
+    let form = c.in_ok-act.ensures in
+    grant_decides _ _ _ c.in_ok-register_refusal.ensures form.act form.answer c.in-Grant.is c.in_ok-grant_refusal-in-Grant.ensures
+
+pub returns-in_ok-deletion_refusal-in_default-clause-answer : goal.returns-in_ok-deletion_refusal-in_default-clause-answer
+returns-in_ok-deletion_refusal-in_default-clause-answer c =
+    let form = c.in_ok-act.ensures in
+    deletion_decides _ _ _ c.in_ok-register_refusal.ensures form.act form.answer c.in_default.not-Grant c.in_ok-deletion_refusal-in_default.ensures

@@ -1,13 +1,7 @@
--- `runs::take_in` meets its contract: what `commands::command` ensures, its counts taken in. Assumes nothing.
+-- `runs::take_in` meets its contract: what `commands::command` ensures, its counts taken in.
 use native.Mathlib.Omega.{arith}
 use mathlib.Core.Path.{sym}
 use Rattle.runs.proofs.take_in.Goals as goal
-
-pub command-done-requires : goal.command-done-requires
-command-done-requires c = tt
-
-pub taking_in-requires : goal.taking_in-requires
-taking_in-requires c = tt
 
 pub returns : goal.returns
 returns c =

@@ -43,7 +43,7 @@ const LEFT_OUT: [&str; 7] = [
     "#![",
     "requires ",
     "ensures ",
-    "ghost use ",
+    "ghost ",
     "use ",
 ];
 

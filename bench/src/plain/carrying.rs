@@ -1,43 +1,39 @@
 //! The functions of `crates/carrying/src/lib.rt`.
 
-pub fn carries(c: u8, perm: u8) -> bool {
-    if perm == 8 {
-        return c / 8 % 2 == 1;
-    }
-    if perm == 4 {
-        return c / 4 % 4 != 0;
-    }
-    if perm == 2 {
-        return c / 8 % 2 + c / 2 % 2 != 0;
-    }
-    c % 16 != 0
-}
+use super::rights::Permission;
 
-fn needed(perm: u8) -> u8 {
+pub fn carries_as(c: u8, perm: Permission) -> bool {
     match perm {
-        2 | 8 => 2,
-        _ => 1,
+        Permission::TT => c / 8 % 2 == 1,
+        Permission::TF => c / 4 % 4 != 0,
+        Permission::FT => c / 8 % 2 + c / 2 % 2 != 0,
+        Permission::FF => c % 16 != 0,
     }
 }
 
-pub fn enough(perm: u8, level: u8) -> bool {
+pub fn carries(c: u8, perm: u8) -> bool {
+    carries_as(c, Permission::decoded(perm))
+}
+
+fn needed(perm: Permission) -> u8 {
+    match perm {
+        Permission::TT | Permission::FT => 2,
+        Permission::TF | Permission::FF => 1,
+    }
+}
+
+pub fn suffices(level: u8, perm: Permission) -> bool {
     needed(perm) <= level
 }
 
-fn merged(two: u8) -> u8 {
-    if two == 0 {
-        0
-    } else {
-        1
-    }
+pub fn enough(perm: u8, level: u8) -> bool {
+    suffices(level, Permission::decoded(perm))
 }
 
 pub fn restrict(c: u8, level: u8) -> u8 {
-    if level == 0 {
-        return 0;
+    match level {
+        0 => 0,
+        1 => (c / 4 % 4).min(1) * 4 + (c % 4).min(1),
+        _ => c,
     }
-    if level == 1 {
-        return merged(c / 4 % 4) * 4 + merged(c % 4);
-    }
-    c
 }

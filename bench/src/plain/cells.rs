@@ -1,57 +1,45 @@
 //! The functions of `crates/cells/src/lib.rt`.
 
+use super::rights::Permission;
+
 pub fn is_code(perm: u8) -> bool {
-    if perm == 8 {
-        return true;
+    matches!(perm, 8 | 4 | 2 | 1)
+}
+
+pub fn stands(c: u8, perm: Permission) -> bool {
+    match perm {
+        Permission::TT => c / 8 % 2 == 1,
+        Permission::TF => c / 4 % 2 == 1,
+        Permission::FT => c / 2 % 2 == 1,
+        Permission::FF => c % 2 == 1,
     }
-    if perm == 4 {
-        return true;
-    }
-    if perm == 2 {
-        return true;
-    }
-    perm == 1
 }
 
 pub fn has(c: u8, perm: u8) -> bool {
-    if perm == 8 {
-        return c / 8 % 2 == 1;
-    }
-    if perm == 4 {
-        return c / 4 % 2 == 1;
-    }
-    if perm == 2 {
-        return c / 2 % 2 == 1;
-    }
-    c % 2 == 1
+    stands(c, Permission::decoded(perm))
 }
 
-fn in_either(a: u8, b: u8, perm: u8) -> u8 {
-    if has(a, perm) {
-        return perm;
+fn code_if(stands: bool, perm: Permission) -> u8 {
+    if stands {
+        perm.code()
+    } else {
+        0
     }
-    if has(b, perm) {
-        return perm;
-    }
-    0
+}
+
+fn cell_of<F: Fn(Permission) -> bool>(test: F) -> u8 {
+    code_if(test(Permission::TT), Permission::TT)
+        + code_if(test(Permission::TF), Permission::TF)
+        + code_if(test(Permission::FT), Permission::FT)
+        + code_if(test(Permission::FF), Permission::FF)
 }
 
 pub fn union(a: u8, b: u8) -> u8 {
-    in_either(a, b, 8) + in_either(a, b, 4) + in_either(a, b, 2) + in_either(a, b, 1)
-}
-
-fn in_first(a: u8, b: u8, perm: u8) -> u8 {
-    if has(a, perm) {
-        if has(b, perm) {
-            return 0;
-        }
-        return perm;
-    }
-    0
+    cell_of(|perm| stands(a, perm) || stands(b, perm))
 }
 
 pub fn without(a: u8, b: u8) -> u8 {
-    in_first(a, b, 8) + in_first(a, b, 4) + in_first(a, b, 2) + in_first(a, b, 1)
+    cell_of(|perm| stands(a, perm) && !stands(b, perm))
 }
 
 pub fn size(c: u8) -> u8 {

@@ -2,11 +2,10 @@
 
 use super::lines;
 use super::lines::LineKind;
-use super::numbers::LineRead;
-use super::rights::{Command, Layer, Office};
+use super::rights::{Command, Layer, Office, Refusal};
 
-#[derive(Clone, Copy, Debug, PartialEq, Eq)]
 #[repr(C)]
+#[derive(Clone, Copy, Debug, PartialEq, Eq)]
 pub struct CommandRead {
     pub answer: u8,
     pub at: usize,
@@ -14,47 +13,45 @@ pub struct CommandRead {
     pub next: usize,
 }
 
-fn no_command(at: usize, end: usize) -> CommandRead {
-    CommandRead {
-        answer: 13,
-        at: at,
-        command: Command {
-            act: 0,
-            layer: Layer(0),
-            by: Office(0),
-            to: Office(0),
-            perm: 0,
-        },
-        next: end,
-    }
+fn five_lines(text: &[u8]) -> Result<(Command, usize), usize> {
+    let Some((act, layer_at)) = lines::line(text, 0, LineKind::Act) else {
+        return Err(0);
+    };
+    let Some((layer, by_at)) = lines::line(text, layer_at, LineKind::Layer) else {
+        return Err(layer_at);
+    };
+    let Some((by, to_at)) = lines::line(text, by_at, LineKind::By) else {
+        return Err(by_at);
+    };
+    let Some((to, perm_at)) = lines::line(text, to_at, LineKind::To) else {
+        return Err(to_at);
+    };
+    let Some((perm, next)) = lines::line(text, perm_at, LineKind::Perm) else {
+        return Err(perm_at);
+    };
+    let command = Command {
+        act: act as u8,
+        layer: Layer(layer),
+        by: Office(by),
+        to: Office(to),
+        perm: perm as u8,
+    };
+    Ok((command, next))
 }
 
 pub fn read_command(text: &[u8]) -> CommandRead {
-    let LineRead::Value(act, layer_at) = lines::line(text, 0, LineKind::Act) else {
-        return no_command(0, text.len());
-    };
-    let LineRead::Value(layer, by_at) = lines::line(text, layer_at, LineKind::Layer) else {
-        return no_command(layer_at, text.len());
-    };
-    let LineRead::Value(by, to_at) = lines::line(text, by_at, LineKind::By) else {
-        return no_command(by_at, text.len());
-    };
-    let LineRead::Value(to, perm_at) = lines::line(text, to_at, LineKind::To) else {
-        return no_command(to_at, text.len());
-    };
-    let LineRead::Value(perm, next) = lines::line(text, perm_at, LineKind::Perm) else {
-        return no_command(perm_at, text.len());
-    };
-    CommandRead {
-        answer: 0,
-        at: 0,
-        command: Command {
-            act: act as u8,
-            layer: Layer(layer),
-            by: Office(by),
-            to: Office(to),
-            perm: perm as u8,
+    match five_lines(text) {
+        Ok((command, next)) => CommandRead {
+            answer: 0,
+            at: 0,
+            command,
+            next,
         },
-        next: next,
+        Err(at) => CommandRead {
+            answer: Refusal::BadText.number(),
+            at,
+            command: Command::default(),
+            next: text.len(),
+        },
     }
 }

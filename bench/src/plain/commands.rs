@@ -3,8 +3,8 @@
 use super::rights::{Command, Header};
 use super::{buffers, cuts, local, refusals, strong, sweeping, tally};
 
-#[derive(Clone, Copy, Debug, PartialEq, Eq)]
 #[repr(C)]
+#[derive(Clone, Copy, Debug, PartialEq, Eq)]
 pub struct Outcome {
     pub answer: u8,
     pub removed: u32,

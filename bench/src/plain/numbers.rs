@@ -1,65 +1,28 @@
 //! The functions of `crates/numbers/src/lib.rt`.
 
-#[derive(Clone, Copy, Debug, PartialEq, Eq)]
-pub enum LineRead {
-    Value(u16, usize),
-    Bad,
-}
-
-fn is_digit(b: u8) -> bool {
-    if b < 48 {
-        return false;
+fn extended(v: u16, b: u8) -> Option<u16> {
+    if v == 0 || !b.is_ascii_digit() {
+        return None;
     }
-    b <= 57
+    v.checked_mul(10)?.checked_add((b - b'0') as u16)
 }
 
-fn goes_on(v: u16, b: u8) -> bool {
-    if is_digit(b) {
-        if v < 1 {
-            return false;
-        }
-        return 10 * (v as u32) + (b as u32 - 48) <= 65535;
+pub fn number(text: &[u8], at: usize) -> Option<(u16, usize)> {
+    let first = *text.get(at)?;
+    if !first.is_ascii_digit() {
+        return None;
     }
-    false
-}
-
-fn extend(v: u16, b: u8) -> u16 {
-    10 * v + (b as u16 - 48)
-}
-
-fn first_digit(b: u8) -> u16 {
-    b as u16 - 48
-}
-
-pub fn number(text: &[u8], at: usize) -> LineRead {
-    if text.len() <= at {
-        return LineRead::Bad;
-    }
-    if !is_digit(text[at]) {
-        return LineRead::Bad;
-    }
-    let mut v = first_digit(text[at]);
-    let mut i = at + 1;
-    while i < text.len() {
+    let mut v = (first - b'0') as u16;
+    for i in at + 1..text.len() {
         let b = text[i];
-        if b == 10 {
-            return LineRead::Value(v, i + 1);
+        if b == b'\n' {
+            return Some((v, i + 1));
         }
-        if !goes_on(v, b) {
-            return LineRead::Bad;
-        }
-        v = extend(v, b);
-        i += 1;
+        v = extended(v, b)?;
     }
-    LineRead::Bad
+    None
 }
 
 pub fn digits(v: u32) -> usize {
-    let mut count = 1;
-    let mut rest = v;
-    while 10 <= rest {
-        rest /= 10;
-        count += 1;
-    }
-    count
+    v.max(1).ilog10() as usize + 1
 }

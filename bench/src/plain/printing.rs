@@ -2,8 +2,8 @@
 
 use super::numbers;
 
-#[derive(Clone, Copy, Debug, PartialEq, Eq)]
 #[repr(C)]
+#[derive(Clone, Copy, Debug, PartialEq, Eq)]
 pub struct Written {
     pub answer: u8,
     pub size: usize,

@@ -3,8 +3,8 @@
 use super::rights::{Header, Office};
 use super::{carrying, cells, registers, sound};
 
-#[derive(Clone, Copy, Debug, PartialEq, Eq)]
 #[repr(C)]
+#[derive(Clone, Copy, Debug, PartialEq, Eq)]
 pub struct Held {
     pub answer: u8,
     pub offices: u8,

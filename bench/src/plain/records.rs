@@ -1,9 +1,8 @@
 //! The functions of `crates/records/src/lib.rt`.
 
-use super::lines::{LineKind, WordRead};
-use super::numbers::LineRead;
+use super::lines::LineKind;
 use super::rights::{Header, Office};
-use super::{buffers, cells, lines};
+use super::{buffers, cells, lines, registers};
 
 #[derive(Clone, Copy, Debug, PartialEq, Eq)]
 pub struct Record {
@@ -13,115 +12,60 @@ pub struct Record {
 }
 
 #[derive(Clone, Copy, Debug, PartialEq, Eq)]
-pub enum RecordRead {
-    Got(Record, usize),
-    BadAt(usize),
+pub struct RecordsEnd {
+    pub outside: bool,
+    pub forbidden: bool,
+    pub next: usize,
 }
 
-#[derive(Clone, Copy, Debug, PartialEq, Eq)]
-pub enum RecordsRead {
-    End {
-        outside: bool,
-        forbidden: bool,
-        next: usize,
-    },
-    BadAt(usize),
+fn by_may(last: Record, by: Office) -> bool {
+    last.by <= by
 }
 
 fn to_may(last: Record, by: Office, to: Office) -> bool {
-    if last.by.0 < by.0 {
-        return true;
-    }
-    last.to.0 <= to.0
+    last.by < by || last.to <= to
 }
 
 fn perm_may(last: Record, by: Office, to: Office, perm: u16) -> bool {
-    if perm < 1 {
-        return false;
-    }
-    if last.by.0 < by.0 {
-        return true;
-    }
-    if last.to.0 < to.0 {
-        return true;
-    }
-    perm < last.perm as u16
+    1 <= perm && (last.by < by || last.to < to || perm < last.perm as u16)
 }
 
-fn with_perm(text: &[u8], at: usize, last: Record, by: Office, to: Office) -> RecordRead {
-    let LineRead::Value(perm, next) = lines::line(text, at, LineKind::Perm) else {
-        return RecordRead::BadAt(at);
+fn read_record(text: &[u8], at: usize, last: Record) -> Result<(Record, usize), usize> {
+    let Some((by, to_at)) = lines::line(text, at, LineKind::By) else {
+        return Err(at);
     };
-    if perm_may(last, by, to, perm) {
-        return RecordRead::Got(
-            Record {
-                by: by,
-                to: to,
-                perm: perm as u8,
-            },
-            next,
-        );
+    let by = Office(by);
+    if !by_may(last, by) {
+        return Err(at);
     }
-    RecordRead::BadAt(at)
-}
-
-fn with_to(text: &[u8], at: usize, last: Record, by: Office) -> RecordRead {
-    let LineRead::Value(to, next) = lines::line(text, at, LineKind::To) else {
-        return RecordRead::BadAt(at);
+    let Some((to, perm_at)) = lines::line(text, to_at, LineKind::To) else {
+        return Err(to_at);
     };
-    if to_may(last, by, Office(to)) {
-        return with_perm(text, next, last, by, Office(to));
+    let to = Office(to);
+    if !to_may(last, by, to) {
+        return Err(to_at);
     }
-    RecordRead::BadAt(at)
-}
-
-fn read_record(text: &[u8], at: usize, last: Record) -> RecordRead {
-    let LineRead::Value(by, next) = lines::line(text, at, LineKind::By) else {
-        return RecordRead::BadAt(at);
+    let Some((perm, next)) = lines::line(text, perm_at, LineKind::Perm) else {
+        return Err(perm_at);
     };
-    if last.by.0 <= by {
-        return with_to(text, next, last, Office(by));
+    if !perm_may(last, by, to, perm) {
+        return Err(perm_at);
     }
-    RecordRead::BadAt(at)
+    let perm = perm as u8;
+    Ok((Record { by, to, perm }, next))
 }
 
-fn or_outside(before: bool, header: Header, told: Record) -> bool {
-    if before {
-        return true;
-    }
-    if told.by.0 < header.n {
-        return header.n <= told.to.0;
-    }
-    true
-}
-
-fn or_forbidden(before: bool, header: Header, told: Record) -> bool {
-    if before {
-        return true;
-    }
-    if told.by.0 == told.to.0 {
-        return true;
-    }
-    told.to.0 == header.soa.0
+fn in_range(header: Header, told: Record) -> bool {
+    told.by.0 < header.n && told.to.0 < header.n
 }
 
 fn place(header: Header, told: Record) -> usize {
     told.by.0 as usize * header.n as usize + told.to.0 as usize
 }
 
-fn has_cell(size: usize, header: Header, told: Record) -> bool {
-    if header.n <= told.by.0 {
-        return false;
-    }
-    if header.n <= told.to.0 {
-        return false;
-    }
-    place(header, told) < size
-}
-
 fn store(cells: &mut [u8], header: Header, told: Record) {
-    if has_cell(cells.len(), header, told) {
-        let at = place(header, told);
+    let at = place(header, told);
+    if in_range(header, told) && at < cells.len() {
         cells[at] = cells::union(cells[at], told.perm);
     }
 }
@@ -134,41 +78,40 @@ fn before_all() -> Record {
     }
 }
 
-fn scan(text: &[u8], start: usize, header: Header, cells: &mut [u8]) -> RecordsRead {
+fn scan(text: &[u8], start: usize, header: Header, cells: &mut [u8]) -> Result<RecordsEnd, usize> {
     let mut at = start;
     let mut last = before_all();
     let mut outside = false;
     let mut forbidden = false;
     loop {
-        if let WordRead::Next(next) = lines::end_line(text, at) {
-            return RecordsRead::End {
-                outside: outside,
-                forbidden: forbidden,
-                next: next,
-            };
+        if let Some(next) = lines::end_line(text, at) {
+            return Ok(RecordsEnd {
+                outside,
+                forbidden,
+                next,
+            });
         }
-        match read_record(text, at, last) {
-            RecordRead::BadAt(line) => {
-                return RecordsRead::BadAt(line);
-            }
-            RecordRead::Got(told, next) => {
-                store(cells, header, told);
-                outside = or_outside(outside, header, told);
-                forbidden = or_forbidden(forbidden, header, told);
-                last = told;
-                at = next;
-            }
-        }
+        let (told, next) = read_record(text, at, last)?;
+        store(cells, header, told);
+        outside |= !in_range(header, told);
+        forbidden |= registers::barred(header, told.by, told.to);
+        last = told;
+        at = next;
     }
 }
 
-pub fn read_records(text: &[u8], start: usize, header: Header, cells: &mut [u8]) -> RecordsRead {
+pub fn read_records(
+    text: &[u8],
+    start: usize,
+    header: Header,
+    cells: &mut [u8],
+) -> Result<RecordsEnd, usize> {
     buffers::clear(cells);
     if text.len() < start {
-        return RecordsRead::BadAt(text.len());
+        return Err(text.len());
     }
     let read = scan(text, start, header, cells);
-    if let RecordsRead::BadAt(_) = read {
+    if read.is_err() {
         buffers::clear(cells);
     }
     read

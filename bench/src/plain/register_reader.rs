@@ -1,13 +1,12 @@
 //! The functions of `crates/register_reader/src/lib.rt`.
 
 use super::lines::LineKind;
-use super::numbers::LineRead;
-use super::records::RecordsRead;
-use super::rights::{Header, Layer, Office};
+use super::records::RecordsEnd;
+use super::rights::{Header, Layer, Office, Refusal};
 use super::{buffers, lines, records, registers, sound};
 
-#[derive(Clone, Copy, Debug, PartialEq, Eq)]
 #[repr(C)]
+#[derive(Clone, Copy, Debug, PartialEq, Eq)]
 pub struct RegisterRead {
     pub answer: u8,
     pub at: usize,
@@ -16,90 +15,82 @@ pub struct RegisterRead {
 }
 
 #[derive(Clone, Copy, Debug, PartialEq, Eq)]
-pub enum HeaderRead {
-    Got(Header, usize),
-    BadAt(usize),
+struct Refused {
+    refusal: Refusal,
+    at: usize,
 }
 
-fn read_header(text: &[u8]) -> HeaderRead {
-    let LineRead::Value(n, soa_at) = lines::line(text, 0, LineKind::N) else {
-        return HeaderRead::BadAt(0);
-    };
-    let LineRead::Value(soa, layer_at) = lines::line(text, soa_at, LineKind::Soa) else {
-        return HeaderRead::BadAt(soa_at);
-    };
-    let LineRead::Value(layer, next) = lines::line(text, layer_at, LineKind::Layer) else {
-        return HeaderRead::BadAt(layer_at);
-    };
-    HeaderRead::Got(
-        Header {
-            n: n,
-            soa: Office(soa),
-            layer: Layer(layer),
-        },
-        next,
-    )
-}
-
-fn no_register(number: u8, at: usize, end: usize) -> RegisterRead {
-    RegisterRead {
-        answer: number,
-        at: at,
-        header: Header {
-            n: 0,
-            soa: Office(0),
-            layer: Layer(0),
-        },
-        next: end,
+impl From<Refusal> for Refused {
+    fn from(refusal: Refusal) -> Refused {
+        Refused { refusal, at: 0 }
     }
 }
 
-fn refusal(cells: &[u8], header: Header, outside: bool, forbidden: bool) -> u8 {
+fn bad_line(at: usize) -> Refused {
+    Refused {
+        refusal: Refusal::BadText,
+        at,
+    }
+}
+
+fn read_header(text: &[u8]) -> Result<(Header, usize), usize> {
+    let Some((n, soa_at)) = lines::line(text, 0, LineKind::N) else {
+        return Err(0);
+    };
+    let Some((soa, layer_at)) = lines::line(text, soa_at, LineKind::Soa) else {
+        return Err(soa_at);
+    };
+    let Some((layer, next)) = lines::line(text, layer_at, LineKind::Layer) else {
+        return Err(layer_at);
+    };
+    let header = Header {
+        n,
+        soa: Office(soa),
+        layer: Layer(layer),
+    };
+    Ok((header, next))
+}
+
+fn judge(cells: &[u8], header: Header, found: RecordsEnd) -> Result<(), Refusal> {
     if !registers::headed(header) {
-        return 1;
+        return Err(Refusal::NoHeader);
     }
     let size = header.n as usize * header.n as usize;
     if cells.len() < size {
-        return 2;
+        return Err(Refusal::WrongLength);
     }
-    if outside {
-        return 6;
+    if found.outside {
+        return Err(Refusal::NoOffice);
     }
-    if forbidden {
-        return 7;
+    if found.forbidden {
+        return Err(Refusal::Barred);
     }
-    sound::register_refusal(&cells[0..size], header)
+    sound::register_refusal(&cells[..size], header)
 }
 
-fn behind_header(text: &[u8], at: usize, header: Header, cells: &mut [u8]) -> RegisterRead {
-    match records::read_records(text, at, header, cells) {
-        RecordsRead::BadAt(line) => no_register(13, line, text.len()),
-        RecordsRead::End {
-            outside,
-            forbidden,
-            next,
-        } => {
-            let number = refusal(cells, header, outside, forbidden);
-            if number == 0 {
-                return RegisterRead {
-                    answer: 0,
-                    at: 0,
-                    header: header,
-                    next: next,
-                };
-            }
-            buffers::clear(cells);
-            no_register(number, 0, text.len())
-        }
-    }
+fn read(text: &[u8], cells: &mut [u8]) -> Result<(Header, usize), Refused> {
+    let (header, start) = read_header(text).map_err(bad_line)?;
+    let found = records::read_records(text, start, header, cells).map_err(bad_line)?;
+    judge(cells, header, found)?;
+    Ok((header, found.next))
 }
 
 pub fn read_register(text: &[u8], cells: &mut [u8]) -> RegisterRead {
-    match read_header(text) {
-        HeaderRead::BadAt(line) => {
+    match read(text, cells) {
+        Ok((header, next)) => RegisterRead {
+            answer: 0,
+            at: 0,
+            header,
+            next,
+        },
+        Err(Refused { refusal, at }) => {
             buffers::clear(cells);
-            no_register(13, line, text.len())
+            RegisterRead {
+                answer: refusal.number(),
+                at,
+                header: Header::default(),
+                next: text.len(),
+            }
         }
-        HeaderRead::Got(header, next) => behind_header(text, next, header, cells),
     }
 }

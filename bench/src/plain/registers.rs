@@ -2,6 +2,26 @@
 
 use super::rights::{Header, Office};
 
+#[derive(Clone, Copy, Debug, PartialEq, Eq)]
+pub struct Register<'a> {
+    pub cells: &'a [u8],
+    pub header: Header,
+}
+
+impl<'a> Register<'a> {
+    pub fn of(cells: &'a [u8], header: Header) -> Option<Register<'a>> {
+        if readable(cells, header) {
+            Some(Register { cells, header })
+        } else {
+            None
+        }
+    }
+
+    pub fn cell(&self, by: Office, to: Office) -> u8 {
+        cell(self.cells, self.header, by, to)
+    }
+}
+
 pub fn cell(cells: &[u8], header: Header, by: Office, to: Office) -> u8 {
     let at = by.0 as usize * header.n as usize + to.0 as usize;
     if at < cells.len() {
@@ -11,14 +31,7 @@ pub fn cell(cells: &[u8], header: Header, by: Office, to: Office) -> u8 {
 }
 
 pub fn headed(header: Header) -> bool {
-    let n = header.n;
-    if n < 2 {
-        return false;
-    }
-    if 128 < n {
-        return false;
-    }
-    header.soa.0 < n
+    2 <= header.n && header.n <= 128 && header.soa.0 < header.n
 }
 
 pub fn whole(cells: &[u8], header: Header) -> bool {
@@ -27,15 +40,9 @@ pub fn whole(cells: &[u8], header: Header) -> bool {
 }
 
 pub fn readable(cells: &[u8], header: Header) -> bool {
-    if headed(header) {
-        return whole(cells, header);
-    }
-    false
+    headed(header) && whole(cells, header)
 }
 
 pub fn barred(header: Header, by: Office, to: Office) -> bool {
-    if by.0 == to.0 {
-        return true;
-    }
-    to.0 == header.soa.0
+    by == to || to == header.soa
 }

@@ -1,56 +1,37 @@
 //! The functions of `crates/sound/src/lib.rt`.
 
-use super::rights::{Header, Office};
+use super::registers::Register;
+use super::rights::{Header, Office, Refusal};
 use super::{carrying, levels, registers};
 
-fn sound_cell(cells: &[u8], header: Header, levels: &[u8; 128], i: u16, j: u16) -> bool {
-    let c = registers::cell(cells, header, Office(i), Office(j));
+fn sound_cell(register: &Register, levels: &[u8; 128], i: u16, j: u16) -> bool {
+    let c = register.cell(Office(i), Office(j));
     if c == 0 {
         return true;
     }
-    if 15 < c {
-        return false;
-    }
-    if registers::barred(header, Office(i), Office(j)) {
-        return false;
-    }
-    carrying::restrict(c, levels[i as usize]) == c
+    c <= 15
+        && !registers::barred(register.header, Office(i), Office(j))
+        && carrying::restrict(c, levels[i as usize]) == c
 }
 
-fn sound_row(cells: &[u8], header: Header, levels: &[u8; 128], i: u16) -> bool {
-    let n = header.n;
-    let mut j = 0;
-    while j < n {
-        if !sound_cell(cells, header, levels, i, j) {
-            return false;
-        }
-        j += 1;
-    }
-    true
+fn sound_row(register: &Register, levels: &[u8; 128], i: u16) -> bool {
+    (0..register.header.n).all(|j| sound_cell(register, levels, i, j))
 }
 
-fn sound_by(cells: &[u8], header: Header, levels: &[u8; 128]) -> bool {
-    let n = header.n;
-    let mut i = 0;
-    while i < n {
-        if !sound_row(cells, header, levels, i) {
-            return false;
-        }
-        i += 1;
-    }
-    true
+fn sound_by(register: &Register, levels: &[u8; 128]) -> bool {
+    (0..register.header.n).all(|i| sound_row(register, levels, i))
 }
 
-pub fn register_refusal(cells: &[u8], header: Header) -> u8 {
+pub fn register_refusal(cells: &[u8], header: Header) -> Result<(), Refusal> {
     if !registers::headed(header) {
-        return 1;
+        return Err(Refusal::NoHeader);
     }
-    if !registers::whole(cells, header) {
-        return 2;
+    let Some(register) = Register::of(cells, header) else {
+        return Err(Refusal::WrongLength);
+    };
+    if sound_by(&register, &levels::levels(cells, header)) {
+        Ok(())
+    } else {
+        Err(Refusal::Unsound)
     }
-    let levels = levels::levels(cells, header);
-    if sound_by(cells, header, &levels) {
-        return 0;
-    }
-    3
 }

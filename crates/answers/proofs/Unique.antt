@@ -1,4 +1,4 @@
--- No second outcome: at most one answer, one length and one room satisfy each contract, whatever the arguments. Assumes nothing.
+-- No second outcome: at most one answer, one length and one room satisfy each contract, whatever the arguments.
 -- `Post` is the contract as the check reads it: of the lifetimes, the arguments, the result and the arguments at exit, of which
 -- the room is the last.
 use mathlib.Core.Path.{◌≡◌}

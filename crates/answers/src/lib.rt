@@ -4,26 +4,26 @@
 ghost use Rattle.printing.specs.Told.{Told};
 ghost use Rattle.answers.specs.Answers.{answer_written, refused_written};
 
-use printing::Written;
+use printing::{Line, Written};
 
 // What a command answered, and how many records it removed and added.
+#[tactic(auto, unfolding(crate::specs::Answers::answer_written, crate::specs::Answers::answer_text))]
 pub fn write_answer(answer: u8, removed: u32, added: u32, room: &mut [u8]) -> Written
     ensures { Told (answer_written answer removed added room.old) result room.new }
 {
-    printing::write_three(
-        b"answer=",
-        answer as u32,
-        b"removed=",
-        removed,
-        b"added=",
-        added,
-        room,
-    )
+    let lines = [
+        Line(b"answer=", answer as u32),
+        Line(b"removed=", removed),
+        Line(b"added=", added),
+    ];
+    printing::write_lines(&lines, room)
 }
 
 // The refusal of an input, and where in it the first bad line starts.
+#[tactic(auto, unfolding(crate::specs::Answers::refused_written, crate::specs::Answers::refused_text))]
 pub fn write_refused(number: u8, at: u32, room: &mut [u8]) -> Written
     ensures { Told (refused_written number at room.old) result room.new }
 {
-    printing::write_two(b"refused=", number as u32, b"at=", at, room)
+    let lines = [Line(b"refused=", number as u32), Line(b"at=", at)];
+    printing::write_lines(&lines, room)
 }

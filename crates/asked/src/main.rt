@@ -2,7 +2,8 @@
 // The questions are case 8 of document 01, chains that are easy to pick wrongly, and one question for each refusal.
 #![tactic(auto)]
 
-use rights::{Header, Layer, Office};
+use rights::Permission::{FF, FT, TF, TT};
+use rights::{Header, Layer, Office, Permission};
 use std::io;
 
 // 0→1 TT, 0→3 TF, 1→2 TT, 2→4 TT, 3→2 TF: map A of document 01.
@@ -50,27 +51,12 @@ const UNSOUND: [u8; 9] = [
 
 const EMPTY: [u8; 49] = [0u8; 49];
 
-fn print(rt: &impl Print, x: u8) -> io::Result<()> {
-    print!(rt; "{x}")
-}
+// A register's cells and how many offices its header says, the office asked for, and the number of the permission.
+// Kept: a number for the permission, since `holding` takes every number and one question asks for 3, which is none.
+type Question<'a> = (&'a [u8], u16, u16, u8);
 
-// A byte after another.
-fn print_next(rt: &impl Print, x: u8) -> io::Result<()> {
-    print!(rt; ",")?;
-    print(rt, x)
-}
-
-fn print_chain(rt: &impl Print, chain: &[u8; 6]) -> io::Result<()> {
-    print(rt, chain[0])?;
-    print_next(rt, chain[1])?;
-    print_next(rt, chain[2])?;
-    print_next(rt, chain[3])?;
-    print_next(rt, chain[4])?;
-    print_next(rt, chain[5])
-}
-
-// A question to a register of n offices whose SOA is 0. No office here is 9, so a byte that stays is seen to stay.
-fn ask(rt: &impl Print, cells: &[u8], n: u16, office: u16, perm: u8) -> io::Result<()> {
+// A question to a register whose SOA is office 0. No office here is 9, so a byte that stays is seen to stay.
+fn ask(rt: &impl Print, (cells, n, office, perm): Question<'_>) -> io::Result<()> {
     let header = Header {
         n,
         soa: Office(0),
@@ -78,42 +64,60 @@ fn ask(rt: &impl Print, cells: &[u8], n: u16, office: u16, perm: u8) -> io::Resu
     };
     let mut chain = [9u8; 6];
     let held = questions::holding(cells, header, Office(office), perm, &mut chain);
-    print!(rt; "answer=")?;
-    print(rt, held.answer)?;
-    print!(rt; " offices=")?;
-    print(rt, held.offices)?;
-    print!(rt; " chain=")?;
-    print_chain(rt, &chain)?;
-    println!(rt; "")
+    print!(rt;
+        "answer={} offices={} chain={}",
+        held.answer, held.offices, chain[0]
+    )?;
+    for next in &chain[1..] {
+        print!(rt; ",{next}")?;
+    }
+    println!(rt)
+}
+
+// Case 8 of document 01, and chains that are easy to pick wrongly.
+fn ask_for_chains(rt: &impl Print) -> io::Result<()> {
+    let questions: [Question<'_>; 6] = [
+        (&A, 5, 4, TF.code()),
+        (&A, 5, 0, TT.code()),
+        (&A, 5, 3, FT.code()),
+        (&LEFT, 5, 4, TF.code()),
+        (&CROSSED, 6, 5, TT.code()),
+        (&WEAK, 4, 3, FF.code()),
+    ];
+    for question in questions {
+        ask(rt, question)?;
+    }
+    Ok(())
 }
 
 // SOA is its own chain for every permission.
 fn ask_soa(rt: &impl Print, cells: &[u8], n: u16) -> io::Result<()> {
-    ask(rt, cells, n, 0, 8)?;
-    ask(rt, cells, n, 0, 4)?;
-    ask(rt, cells, n, 0, 2)?;
-    ask(rt, cells, n, 0, 1)
+    for perm in Permission::ALL {
+        ask(rt, (cells, n, 0, perm.code()))?;
+    }
+    Ok(())
 }
 
 // One question for each refusal, in their order.
 fn ask_refused(rt: &impl Print) -> io::Result<()> {
-    ask(rt, &A, 1, 4, 4)?;
-    ask(rt, &A, 4, 4, 4)?;
-    ask(rt, &UNSOUND, 3, 2, 8)?;
-    ask(rt, &A, 5, 4, 3)?;
-    ask(rt, &A, 5, 5, 4)?;
-    ask(rt, &EMPTY, 7, 0, 4)?;
-    ask(rt, &A, 5, 3, 2)
+    let questions: [Question<'_>; 7] = [
+        (&A, 1, 4, TF.code()),
+        (&A, 4, 4, TF.code()),
+        (&UNSOUND, 3, 2, TT.code()),
+        (&A, 5, 4, 3),
+        (&A, 5, 5, TF.code()),
+        (&EMPTY, 7, 0, TF.code()),
+        (&A, 5, 3, FT.code()),
+    ];
+    for question in questions {
+        ask(rt, question)?;
+    }
+    Ok(())
 }
 
 fn main(rt: HostRuntime) -> io::Result<()> {
-    ask(&rt, &A, 5, 4, 4)?;
-    ask(&rt, &A, 5, 0, 8)?;
-    ask(&rt, &A, 5, 3, 2)?;
-    ask(&rt, &LEFT, 5, 4, 4)?;
-    ask(&rt, &CROSSED, 6, 5, 8)?;
-    ask(&rt, &WEAK, 4, 3, 1)?;
+    ask_for_chains(&rt)?;
     ask_soa(&rt, &A, 5)?;
-    ask_soa(&rt, &EMPTY[0..9], 3)?;
+    ask_soa(&rt, &EMPTY[..9], 3)?;
     ask_refused(&rt)
 }

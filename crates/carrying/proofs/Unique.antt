@@ -4,6 +4,8 @@ use Prim.Native.Nat.{ℕ}
 use mathlib.Core.Bool.{Bool}
 use Rattle.theory.proofs.Once.{Once, no_second}
 use Rattle.carrying.proofs.carries.Reads as carries
+use Rattle.carrying.proofs.carries_as.Reads as carries_as
+use Rattle.carrying.proofs.suffices.Reads as suffices
 use Rattle.carrying.proofs.enough.Reads as enough
 use Rattle.carrying.proofs.restrict.Reads as restrict
 
@@ -15,3 +17,9 @@ enough_once κs a exit = no_second _
 
 pub restrict_once : (κs : _) (a : _) (exit : _) → Once (λ (r : ℕ). restrict.Post κs a r exit)
 restrict_once κs a exit = no_second _
+
+pub carries_as_once : (κs : _) (a : _) (exit : _) → Once (λ (r : Bool). carries_as.Post κs a r exit)
+carries_as_once κs a exit = no_second _
+
+pub suffices_once : (κs : _) (a : _) (exit : _) → Once (λ (r : Bool). suffices.Post κs a r exit)
+suffices_once κs a exit = no_second _

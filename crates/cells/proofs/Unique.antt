@@ -5,6 +5,7 @@ use mathlib.Core.Bool.{Bool}
 use Rattle.theory.proofs.Once.{Once, no_second}
 use Rattle.cells.proofs.is_code.Reads as is_code
 use Rattle.cells.proofs.has.Reads as has
+use Rattle.cells.proofs.stands.Reads as stands
 use Rattle.cells.proofs.union.Reads as union
 use Rattle.cells.proofs.without.Reads as without
 use Rattle.cells.proofs.size.Reads as size
@@ -23,3 +24,6 @@ without_once κs a exit = no_second _
 
 pub size_once : (κs : _) (a : _) (exit : _) → Once (λ (r : ℕ). size.Post κs a r exit)
 size_once κs a exit = no_second _
+
+pub stands_once : (κs : _) (a : _) (exit : _) → Once (λ (r : Bool). stands.Post κs a r exit)
+stands_once κs a exit = no_second _

@@ -1,4 +1,4 @@
--- No second outcome: at most one answer satisfies the contract, whatever the text. Assumes nothing.
+-- No second outcome: at most one answer satisfies the contract, whatever the text.
 -- `Post` is the contract as the check reads it: of the lifetimes, the arguments, the result and the arguments at exit.
 use mathlib.Core.Path.{◌≡◌, sym, ◌∙◌}
 use Rattle.command_reader.specs.declared.CommandRead.{CommandRead}

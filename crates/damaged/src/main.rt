@@ -2,7 +2,10 @@
 // and writes what the reader answers and the whole buffer it was lent. The whole text comes first.
 #![tactic(auto)]
 
-use std::io;
+ghost use Rattle.std.specs.Prelude.{◌≤◌, ◌+◌, length};
+
+use register_reader::RegisterRead;
+use std::{fmt, io};
 
 // n=5, SOA 0, layer 7; 0→1 TT, 0→3 TF, 1→2 TT, 2→4 TT, 3→2 TF: map A of document 01.
 const A: [u8; 121] = *b"n=5\nsoa=0\nlayer=7\n\
@@ -22,157 +25,93 @@ enum Damage {
     Lowered,
 }
 
-fn print(rt: &impl Print, label: &str, x: u64) -> io::Result<()> {
-    print!(rt; "{label}{x}")
-}
+impl Damage {
+    const ALL: [Damage; 4] = [
+        Damage::Removed,
+        Damage::Doubled,
+        Damage::Raised,
+        Damage::Lowered,
+    ];
 
-fn print_first(rt: &impl Print, cell: u8) -> io::Result<()> {
-    print(rt, " cells=", cell as u64)
-}
-
-// A cell after another.
-fn print_next(rt: &impl Print, cell: u8) -> io::Result<()> {
-    print(rt, ",", cell as u64)
-}
-
-fn print_next_cells(rt: &impl Print, cells: &[u8]) -> io::Result<()> {
-    let mut k = 0;
-    while k < cells.len() {
-        print_next(rt, cells[k])?;
-        k += 1;
+    // How long the text of map A is with one byte of it so damaged.
+    fn length(self) -> usize
+        ensures { result ≤ length A + 1 }
+    {
+        match self {
+            Damage::Removed => A.len() - 1,
+            Damage::Doubled => A.len() + 1,
+            Damage::Raised | Damage::Lowered => A.len(),
+        }
     }
-    Ok(())
+
+    // The byte at `at` of that text, where the byte at `place` is damaged. Past the end it is 0.
+    fn byte(self, place: usize, at: usize) -> u8
+        requires { at ≤ length A }
+    {
+        let from = match self {
+            Damage::Removed if place <= at => at + 1,
+            Damage::Doubled if place < at => at - 1,
+            _ => at,
+        };
+        let byte = A.get(from).copied().unwrap_or(0);
+        match self {
+            Damage::Raised if at == place => byte.wrapping_add(1),
+            Damage::Lowered if at == place => byte.wrapping_sub(1),
+            _ => byte,
+        }
+    }
+}
+
+impl fmt::Display for Damage {
+    fn fmt<W: fmt::Write>(&self, f: &mut fmt::Formatter<W>) -> fmt::Result {
+        f.write_str(match self {
+            Damage::Removed => "removed",
+            Damage::Doubled => "doubled",
+            Damage::Raised => "raised",
+            Damage::Lowered => "lowered",
+        })
+    }
 }
 
 // The buffer is lent without zeros in it, so that a refusal is seen to leave it zero.
 fn show(rt: &impl Print, text: &[u8]) -> io::Result<()> {
     let mut cells = [9u8; 25];
-    let read = register_reader::read_register(text, &mut cells);
-    print(rt, ": answer=", read.answer as u64)?;
-    print(rt, " at=", read.at as u64)?;
-    print(rt, " rest=", read.next as u64)?;
-    print(rt, " n=", read.header.n as u64)?;
-    print(rt, " soa=", read.header.soa.0 as u64)?;
-    print(rt, " layer=", read.header.layer.0 as u64)?;
-    print_first(rt, cells[0])?;
-    print_next_cells(rt, &cells[1..])?;
-    println!(rt; "")
+    let RegisterRead {
+        answer,
+        at,
+        header,
+        next,
+    } = register_reader::read_register(text, &mut cells);
+    print!(rt; ": answer={answer} at={at} rest={next}")?;
+    print!(rt;
+        " n={} soa={} layer={}",
+        header.n, header.soa.0, header.layer.0
+    )?;
+    print!(rt; " cells={}", cells[0])?;
+    for cell in &cells[1..] {
+        print!(rt; ",{cell}")?;
+    }
+    println!(rt)
 }
 
-// Past the end it is 0: the longest of the damaged texts decides the room, and the others leave the end of it unread.
-fn byte(whole: &[u8], at: usize) -> u8 {
-    if at < whole.len() {
-        return whole[at];
+// The longest of the damaged texts decides the room, and the others leave the end of it alone.
+fn show_damaged(rt: &impl Print, damage: Damage, place: usize) -> io::Result<()> {
+    let mut room = [0u8; A.len() + 1];
+    let text = &mut room[..damage.length()];
+    for (at, byte) in text.iter_mut().enumerate() {
+        *byte = damage.byte(place, at);
     }
-    0
-}
-
-fn next_byte(whole: &[u8], at: usize) -> u8 {
-    if at < whole.len() {
-        return byte(whole, at + 1);
-    }
-    0
-}
-
-fn removed(whole: &[u8], place: usize, at: usize) -> u8 {
-    if at < place {
-        return byte(whole, at);
-    }
-    next_byte(whole, at)
-}
-
-fn doubled(whole: &[u8], place: usize, at: usize) -> u8 {
-    if at <= place {
-        return byte(whole, at);
-    }
-    byte(whole, at - 1)
-}
-
-// Modulo 256.
-fn raise(x: u8) -> u8 {
-    if x == 255 {
-        return 0;
-    }
-    x + 1
-}
-
-// Modulo 256.
-fn lower(x: u8) -> u8 {
-    if x == 0 {
-        return 255;
-    }
-    x - 1
-}
-
-fn raised(whole: &[u8], place: usize, at: usize) -> u8 {
-    if at == place {
-        return raise(byte(whole, at));
-    }
-    byte(whole, at)
-}
-
-fn lowered(whole: &[u8], place: usize, at: usize) -> u8 {
-    if at == place {
-        return lower(byte(whole, at));
-    }
-    byte(whole, at)
-}
-
-// The byte at `at` of the damaged text.
-fn damaged(whole: &[u8], damage: Damage, place: usize, at: usize) -> u8 {
-    match damage {
-        Damage::Removed => removed(whole, place, at),
-        Damage::Doubled => doubled(whole, place, at),
-        Damage::Raised => raised(whole, place, at),
-        Damage::Lowered => lowered(whole, place, at),
-    }
-}
-
-fn write_damaged(whole: &[u8], damage: Damage, place: usize, text: &mut [u8]) {
-    let mut at = 0;
-    while at < text.len() {
-        text[at] = damaged(whole, damage, place, at);
-        at += 1;
-    }
-}
-
-fn show_damaged(rt: &impl Print, whole: &[u8], damage: Damage, place: usize) -> io::Result<()> {
-    let mut text = [0u8; 122];
-    write_damaged(whole, damage, place, &mut text);
-    match damage {
-        Damage::Removed => {
-            print(rt, "removed ", place as u64)?;
-            show(rt, &text[0..120])
-        }
-        Damage::Doubled => {
-            print(rt, "doubled ", place as u64)?;
-            show(rt, &text[0..122])
-        }
-        Damage::Raised => {
-            print(rt, "raised ", place as u64)?;
-            show(rt, &text[0..121])
-        }
-        Damage::Lowered => {
-            print(rt, "lowered ", place as u64)?;
-            show(rt, &text[0..121])
-        }
-    }
-}
-
-fn show_each(rt: &impl Print, whole: &[u8], damage: Damage) -> io::Result<()> {
-    let mut place = 0;
-    while place < whole.len() {
-        show_damaged(rt, whole, damage, place)?;
-        place += 1;
-    }
-    Ok(())
+    print!(rt; "{damage} {place}")?;
+    show(rt, text)
 }
 
 fn main(rt: HostRuntime) -> io::Result<()> {
     print!(rt; "whole")?;
     show(&rt, &A)?;
-    show_each(&rt, &A, Damage::Removed)?;
-    show_each(&rt, &A, Damage::Doubled)?;
-    show_each(&rt, &A, Damage::Raised)?;
-    show_each(&rt, &A, Damage::Lowered)
+    for damage in Damage::ALL {
+        for place in 0..A.len() {
+            show_damaged(&rt, damage, place)?;
+        }
+    }
+    Ok(())
 }

@@ -5,23 +5,26 @@
 ghost use Rattle.wording.specs.Writer.{header_written, end_written};
 ghost use Rattle.printing.specs.Told.{Told};
 
-use printing::Written;
-use rights::Header;
+use printing::{Line, Written};
+use rights::{Header, Refusal};
 
 // The header of a register.
 pub fn write_header(header: Header, room: &mut [u8]) -> Written
     ensures { Told (header_written header room.old) result room.new }
 {
     if !registers::headed(header) {
-        return Written { answer: 1, size: 0 };
+        return Written::from(Err(Refusal::NoHeader));
     }
-    let n = header.n as u32;
-    let soa = header.soa.0 as u32;
-    let layer = header.layer.0 as u32;
-    printing::write_three(b"n=", n, b"soa=", soa, b"layer=", layer, room)
+    let lines = [
+        Line(b"n=", header.n as u32),
+        Line(b"soa=", header.soa.0 as u32),
+        Line(b"layer=", header.layer.0 as u32),
+    ];
+    printing::write_lines(&lines, room)
 }
 
 // The line behind the last row.
+#[tactic(auto, unfolding(wording::specs::Writer::end_written, wording::specs::Word::end_text))]
 pub fn write_end(room: &mut [u8]) -> Written
     ensures { Told (end_written room.old) result room.new }
 {

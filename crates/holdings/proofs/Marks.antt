@@ -1,8 +1,9 @@
--- Levels made up to 128 entries serve as the levels themselves. Assumes nothing.
+-- Levels made up to 128 entries serve as the levels themselves.
 use Prim.Native.Nat.{ℕ}
-use mathlib.Core.Path.{◌≡◌, ap, fun_ext}
+use mathlib.Core.Path.{◌≡◌, refl, ap, fun_ext}
 use mathlib.Core.Bool.{Bool, true, false, ◌&&◌, ◌||◌, cond}
 use mathlib.Core.List.{List, []}
+use mir.Val.{bool_byte}
 use lib.Dec.{eqb, leb}
 use Rattle.rights.specs.declared.Header.{Header}
 use Rattle.rights.specs.Below.{table}
@@ -17,6 +18,11 @@ use Rattle.levels.specs.Padded.{padded, padded_levels}
 use Rattle.levels.proofs.Padded.{get_or-padded}
 use Rattle.levels.proofs.Given.{levels_read}
 use Rattle.holdings.specs.Loser.{mark_by, padded_losers}
+
+-- the byte of a test is its mark
+pub byte_of : (b : Bool) → bool_byte b ≡ cond b 1 0
+byte_of true = refl
+byte_of false = refl
 
 holds-padded : (h : Header) (R ls : List ℕ) (p : Permission) (y : ℕ) → holds_by h R (padded 0 ls) p y ≡ holds_by h R ls p y
 unfolding holds_by level_in

@@ -1,4 +1,4 @@
--- No second outcome: at most one array satisfies the contract, whatever the arguments. Assumes nothing.
+-- No second outcome: at most one array satisfies the contract, whatever the arguments.
 use Prim.Native.Nat.{ℕ}
 use mathlib.Core.List.{List}
 use Rattle.theory.proofs.Once.{Once, no_second}

@@ -2,138 +2,100 @@
 // Levels come as 128 bytes, one for each office there can be, as `levels` gives them.
 #![tactic(auto)]
 
-ghost use Rattle.std.specs.Prelude.{◌≡◌, ◌≤◌, ◌<◌};
-ghost use Rattle.levels.specs.Padded.{padded};
+ghost use Rattle.std.specs.Prelude.{◌≡◌, is_some, IfSome, ◌≤◌, ◌<◌, ◌&&◌, not};
+ghost use Rattle.levels.specs.Padded.{padded, padded_levels};
 ghost use Rattle.rights.specs.Below.{table};
-ghost use Rattle.rights.specs.Permission.{decoded};
 ghost use Rattle.rights.specs.Level.{holds_by, passes_on};
 ghost use Rattle.rights.specs.Deletion.{loses_one, loses as loses_by};
+ghost use Rattle.rights.specs.Sound.{readable as is_readable};
 ghost use Rattle.holdings.specs.Loser.{mark_by, padded_losers};
 
-use rights::{Header, Office};
+use registers::Register;
+use rights::{Header, Office, Permission};
 
-// Whether office x may pass the permission on to y and has a link there that carries it.
-fn passes_on(cells: &[u8], header: Header, levels: &[u8; 128], perm: u8, y: u16, x: u16) -> bool
-    requires { x < 128 }
-    ensures { result ≡ passes_on header cells.now levels.now (decoded perm) y x }
-{
-    if carrying::enough(perm, levels[x as usize]) {
-        return carrying::carries(registers::cell(cells, header, Office(x), Office(y)), perm);
-    }
-    false
+// A register with the levels of its offices.
+#[derive(Drop)]
+struct Levelled<'a> {
+    register: Register<'a>,
+    levels: [u8; 128],
 }
 
-// Whether y holds the permission: SOA does, and whoever has a grantor that passes it on.
-fn holds_by(cells: &[u8], header: Header, levels: &[u8; 128], perm: u8, y: u16) -> bool
-    requires { header.n ≤ 128 }
-    ensures { result ≡ holds_by header cells.now levels.now (decoded perm) y }
-{
-    if y == header.soa.0 {
-        return true;
+impl<'a> Levelled<'a> {
+    // The register of a header and a buffer with its levels, where there is one.
+    fn of(cells: &'a [u8], header: Header) -> Option<Levelled<'a>>
+        ensures there { is_some result ≡ is_readable header cells.now }
+        ensures same { IfSome result (λ r. (r.register.header ≡ header) × (r.register.cells.now ≡ cells.now) × (r.levels ≡ padded_levels header cells.now)) }
+    {
+        let register = Register::of(cells, header)?;
+        Some(Levelled {
+            register,
+            levels: levels::levels(cells, header),
+        })
     }
-    let n = header.n;
-    let mut x = 0;
-    while x < n {
-        if passes_on(cells, header, levels, perm, y, x) {
-            return true;
+
+    // Whether office x may pass the permission on to y and has a link there that carries it.
+    #[tactic(auto, unfolding(rights::specs::Level::level_in))]
+    fn passes_on(&self, perm: Permission, y: u16, x: u16) -> bool
+        requires { x < 128 }
+        ensures { result ≡ passes_on self.now.register.header self.now.register.cells.now self.now.levels perm y x }
+    {
+        carrying::suffices(self.levels[x as usize], perm)
+            && carrying::carries_as(self.register.cell(Office(x), Office(y)), perm)
+    }
+
+    // Whether y holds the permission: SOA does, and whoever has a grantor that passes it on.
+    #[tactic(auto, unfolding(rights::specs::Level::holds_by))]
+    fn holds(&self, perm: Permission, y: u16) -> bool
+        ensures { result ≡ holds_by self.now.register.header self.now.register.cells.now self.now.levels perm y }
+    {
+        y == self.register.header.soa.0
+            || (0..self.register.header.n).any(|x| self.passes_on(perm, y, x))
+    }
+}
+
+// A register before and after a deletion, which leaves its header as it was.
+#[derive(Drop)]
+struct Change<'a> {
+    before: Levelled<'a>,
+    after: Levelled<'a>,
+    ghost one_header: { before.register.header ≡ after.register.header },
+}
+
+impl<'a> Change<'a> {
+    // Whether y held the permission before and does not now.
+    fn loses_one(&self, y: u16, perm: Permission) -> bool
+        ensures { let b = self.now.before in let a = self.now.after in result ≡ loses_one b.register.header b.register.cells.now b.levels a.register.cells.now a.levels y perm }
+    {
+        self.before.holds(perm, y) && !self.after.holds(perm, y)
+    }
+
+    // Whether y holds fewer permissions than before: some one of the four is gone.
+    fn loses(&self, y: u16) -> bool
+        ensures { let b = self.now.before in let a = self.now.after in result ≡ loses_by b.register.header b.register.cells.now b.levels a.register.cells.now a.levels y }
+    {
+        Permission::ALL.iter().any(|perm| self.loses_one(y, *perm))
+    }
+
+    // 1 for each office that holds fewer permissions than before, and 0 for the others and after them.
+    #[tactic(auto, using(registers::proofs::Bounds::readable_high, levels::proofs::Padded::filling, crate::proofs::Marks::byte_of), unfolding(crate::specs::Loser::mark_by))]
+    fn losers(&self) -> [u8; 128]
+        ensures { let b = self.now.before in let a = self.now.after in result ≡ padded 0 (table b.register.header.n (mark_by b.register.header b.register.cells.now b.levels a.register.cells.now a.levels)) }
+    {
+        let mut marks = [0; 128];
+        for y in 0..self.before.register.header.n {
+            marks[y as usize] = u8::from(self.loses(y));
         }
-        x += 1;
+        marks
     }
-    false
-}
-
-// Whether y held the permission before and does not now.
-fn loses_one(
-    before: &[u8],
-    before_levels: &[u8; 128],
-    after: &[u8],
-    after_levels: &[u8; 128],
-    header: Header,
-    perm: u8,
-    y: u16,
-) -> bool
-    requires { header.n ≤ 128 }
-    ensures { result ≡ loses_one header before.now before_levels.now after.now after_levels.now y (decoded perm) }
-{
-    if holds_by(before, header, before_levels, perm, y) {
-        return !holds_by(after, header, after_levels, perm, y);
-    }
-    false
-}
-
-// Whether y holds fewer permissions than before: some one of the four is gone.
-fn loses(
-    before: &[u8],
-    before_levels: &[u8; 128],
-    after: &[u8],
-    after_levels: &[u8; 128],
-    header: Header,
-    y: u16,
-) -> bool
-    requires { header.n ≤ 128 }
-    ensures { result ≡ loses_by header before.now before_levels.now after.now after_levels.now y }
-{
-    if loses_one(before, before_levels, after, after_levels, header, 8, y) {
-        return true;
-    }
-    if loses_one(before, before_levels, after, after_levels, header, 4, y) {
-        return true;
-    }
-    if loses_one(before, before_levels, after, after_levels, header, 2, y) {
-        return true;
-    }
-    loses_one(before, before_levels, after, after_levels, header, 1, y)
-}
-
-// 1 for an office that holds fewer permissions than before, 0 for another.
-fn loser_mark(
-    before: &[u8],
-    before_levels: &[u8; 128],
-    after: &[u8],
-    after_levels: &[u8; 128],
-    header: Header,
-    y: u16,
-) -> u8
-    requires { header.n ≤ 128 }
-    ensures { result ≡ mark_by header before.now before_levels.now after.now after_levels.now y }
-{
-    if loses(before, before_levels, after, after_levels, header, y) {
-        return 1;
-    }
-    0
-}
-
-// A mark for each of the n offices, and 0 after them.
-fn loser_marks(
-    before: &[u8],
-    before_levels: &[u8; 128],
-    after: &[u8],
-    after_levels: &[u8; 128],
-    header: Header,
-) -> [u8; 128]
-    requires { header.n ≤ 128 }
-    ensures { result ≡ padded 0 (table header.n (mark_by header before.now before_levels.now after.now after_levels.now)) }
-{
-    let n = header.n;
-    let mut marks = [0u8; 128];
-    let mut y = 0;
-    while y < n {
-        marks[y as usize] = loser_mark(before, before_levels, after, after_levels, header, y);
-        y += 1;
-    }
-    marks
 }
 
 // The offices that hold fewer permissions after than before, each marked 1; nobody where either register cannot be read.
+#[tactic(auto, using(crate::proofs::Marks::losers_marked, crate::proofs::Marks::none_before, crate::proofs::Marks::none_after), unfolding(levels::specs::Padded::padded))]
 pub fn losers(before: &[u8], after: &[u8], header: Header) -> [u8; 128]
     ensures { result ≡ padded_losers header before.now after.now }
 {
-    if registers::readable(before, header) {
-        if registers::readable(after, header) {
-            let before_levels = levels::levels(before, header);
-            let after_levels = levels::levels(after, header);
-            return loser_marks(before, &before_levels, after, &after_levels, header);
-        }
+    match (Levelled::of(before, header), Levelled::of(after, header)) {
+        (Some(before), Some(after)) => Change { before, after }.losers(),
+        _ => [0; 128],
     }
-    [0u8; 128]
 }

@@ -1,4 +1,4 @@
--- Levels from marks made up to 128, and with nobody left out. Assumes nothing.
+-- Levels from marks made up to 128, and with nobody left out.
 use Prim.Native.Nat.{ℕ, zero, suc, ◌≤◌, ◌<◌}
 use native.Mathlib.Omega.{arith}
 use mathlib.Core.Path.{◌≡◌, ap, ap₂}
@@ -12,10 +12,9 @@ use Rattle.rights.specs.declared.Permission.{Permission}
 use Rattle.rights.specs.declared.Permission.TheVariants.{TT, TF}
 use Rattle.rights.specs.Register.{soa_of}
 use Rattle.rights.specs.Level.{is_in, linked, reached, levels_among, every_office, other_than, levels, independent_levels, level_in, level_by}
-use Rattle.rights.specs.Sound.{headed, whole, readable}
-use Rattle.theory.proofs.Tests.{left_of}
+use Rattle.rights.specs.Sound.{readable}
 use Rattle.theory.proofs.Below.{table_ext}
-use Rattle.theory.proofs.Ready.{headed_inside, headed_high}
+use Rattle.registers.proofs.Bounds.{readable_high, readable_inside}
 use Rattle.levels.specs.Padded.{padded, padded_levels, padded_independent}
 use Rattle.levels.proofs.Padded.{get_or-padded}
 use Rattle.levels.proofs.Rounds.{in_padded, marks_after}
@@ -52,9 +51,9 @@ nobody_out h R out l =
     levels_ext h R (other_than out) every_office
     (λ y m. ap not (ne_eqb y out (λ e. let k : y < out = omega arith in omega arith)))
 
--- what the search for levels asks of a header
+-- what the header of a register that can be read says
 pub readable-header : (h : Header) (R : List ℕ) → readable h R ≡ true → (h.n ≤ 128) × (soa_of h < h.n)
-readable-header h R e = let head = left_of (headed h) (whole h R) e in (headed_high h head, headed_inside h head)
+readable-header h R e = (readable_high h R e, readable_inside h R e)
 
 -- the array has each office's level where the list has it, and 0 wherever else
 pub level_padded : (ls : List ℕ) (k : ℕ) → level_in (padded 0 ls) k ≡ level_in ls k

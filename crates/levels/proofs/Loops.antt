@@ -1,16 +1,11 @@
--- A loop that tests one number after the other, as far as it has come: a test of those below i. Assumes nothing.
+-- A loop that tests one number after the other, as far as it has come: a test of those below i.
 use Prim.Native.Nat.{ℕ, ◌+◌, ◌<◌}
 use native.Mathlib.Numerals.{add-one}
 use mathlib.Core.Path.{◌≡◌}
 use mathlib.Core.Bool.{Bool, true, false}
-use Rattle.rights.specs.Below.{any_below, all_below}
+use Rattle.rights.specs.Below.{all_below}
 use Rattle.theory.proofs.Tests.{clash, fails}
 use Rattle.theory.proofs.Below.{all_at}
-
--- one more at which the test fails
-pub none_more : (i : ℕ) (f : ℕ → Bool) → any_below i f ≡ false → f i ≡ false → any_below (i + 1) f ≡ false
-unfolding any_below
-none_more i f p q = rw (add-one, p, q)
 
 -- one more at which it passes
 pub all_more : (i : ℕ) (f : ℕ → Bool) → all_below i f ≡ true → f i ≡ true → all_below (i + 1) f ≡ true

@@ -1,4 +1,4 @@
--- Laws of arrays made up to 128 entries, which a loop fills from the front. Assumes nothing.
+-- Laws of arrays made up to 128 entries, which a loop fills from the front.
 use Prim.Native.Nat.{ℕ, zero, suc, ◌+◌, ◌-◌, ◌≤◌, ◌<◌}
 use native.Mathlib.Numerals.{add-one}
 use native.Mathlib.Omega.{arith}
@@ -51,6 +51,10 @@ module _ {A : Type 0} (none : A) where
       ∙ sym (append_snoc (table y f) (f y) (replicate (127 - y) none))
       ∙ ap (λ (m : ℕ). table y f ++ (f y ∷ []) ++ replicate m none) e')
 
+  -- the same, of the array and the value by other names
+  pub padded_next : (f : ℕ → A) (y : ℕ) (l : List A) (v : A) → l ≡ padded none (table y f) → v ≡ f y → y < 128 → set l y v ≡ padded none (table (y + 1) f)
+  padded_next f y l v e d h = rw (e, d) (padded-more f y h)
+
   -- an array with the values at the first n places and nothing after them
   pub padded_of :
       (f : ℕ → A) (n : ℕ) (l : List A) →
@@ -66,3 +70,6 @@ module _ {A : Type 0} (none : A) where
       (λ t. let b : n ≤ k = ltb-false k n t in
       after k b ∙ sym (get_or-padded (table n f) k ∙ get_or-eq_default (table n f) none (rw length-table b)))
       (decided (ltb k n)))
+
+-- what a loop that fills an array from the front is proved by
+pub ruleset filling = (padded-none, padded_next)

@@ -1,3 +1,2 @@
 -- What the contracts of levels cite beside the definitions of document 01.
-pub mod Marks
 pub mod Padded

@@ -1,5 +1,5 @@
 -- The laws that the proofs of the line readers share.
-pub mod WordSoFar
+pub mod WordRead
 pub mod Words
 pub mod Found
 pub mod SoFar

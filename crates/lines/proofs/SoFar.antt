@@ -1,4 +1,4 @@
--- Lines of given kinds one after the other: what has been read so far, and what each line makes of that. Assumes nothing.
+-- Lines of given kinds one after the other: what has been read so far, and what each line makes of that.
 use Prim.Native.Nat.{ℕ, ◌≤◌}
 use mathlib.Core.Path.{◌≡◌, refl, ap, ◌∙◌}
 use mathlib.Core.List.{List, [], ◌∷◌, ◌++◌}
@@ -7,7 +7,7 @@ use lib.ListN.{length, drop}
 use Rattle.wording.specs.Word.{Kind}
 use Rattle.wording.specs.Lines.{Reading, got, bad_at, and_before, lines_of}
 use Rattle.lines.specs.Read.{line_at}
-use Rattle.numbers.specs.declared.LineRead.TheVariants.{Value, Bad}
+use Rattle.std.specs.declared.option.Option.TheVariants.{Some, None}
 use Rattle.lines.proofs.Found.{line_found, line_bad}
 
 -- the values read so far, before what is read behind them
@@ -42,7 +42,7 @@ start text all = record { within = omega arith; left = refl }
 
 module _ {text : List ℕ} {all kinds : List Kind} {k : Kind} {vs : List ℕ} {at : ℕ} (s : LinesSoFar text all (k ∷ kinds) vs at) where
   -- a line with a value
-  pub lines_more : {v next : ℕ} → line_at text at k ≡ Value v next → LinesSoFar text all kinds (vs ++ (v ∷ [])) next
+  pub lines_more : {v next : ℕ} → line_at text at k ≡ Some (v, next) → LinesSoFar text all kinds (vs ++ (v ∷ [])) next
   unfolding lines_of
   lines_more {v} {next} e =
       let f = line_found text at k v next e in
@@ -50,7 +50,7 @@ module _ {text : List ℕ} {all kinds : List Kind} {k : Kind} {vs : List ℕ} {a
       record { within = f.within; left = s.left ∙ ap (behind vs) one ∙ behind_more vs v (lines_of kinds (drop next text)) }
 
   -- a bad line
-  pub lines_stop : line_at text at k ≡ Bad → lines_of all text ≡ bad_at (drop at text)
+  pub lines_stop : line_at text at k ≡ None → lines_of all text ≡ bad_at (drop at text)
   unfolding lines_of
   lines_stop e =
       let one : lines_of (k ∷ kinds) (drop at text) ≡ bad_at (drop at text) = rw (line_bad text at k e, lines_of) refl in

@@ -1,77 +1,65 @@
--- Reading one of several words, and the key and the value of a line, at a place in the text. Assumes nothing.
-use Prim.Native.Nat.{ℕ, ◌≤◌, ◌<◌}
-use mathlib.Core.Path.{◌≡◌, refl, ap, ◌∙◌}
-use mathlib.Core.List.{List, [], ◌∷◌, ◌++◌}
+-- Reading one of several words, and the key and the value of a line, at a place in the text.
+use Prim.Native.Nat.{ℕ, ◌+◌, ◌≤◌, ◌<◌}
+use mathlib.Core.Path.{◌≡◌, refl, sym, ap, ◌∙◌}
+use mathlib.Core.List.{List}
+use mathlib.Core.Logic.{⊎_elim}
 use native.Mathlib.Omega.{arith}
-use lib.ListN.{length, drop, drop_of_length-le}
-use Rattle.wording.specs.Word.{lf, Choice, Kind, decimal, n_line, soa_line, layer_line, act_line, by_line, to_line, perm_line, key, form, end_text}
-use Rattle.wording.specs.Line.{After, after, otherwise, after_word, chosen, value_of, behind_key, line_of}
+use lib.ListN.{length, get_or, drop, drop_of_length-le}
+use lib.Seq.{drop-cons}
+use native.Mathlib.Numerals.{add-one}
+use Rattle.wording.specs.Word.{Kind, n_line, soa_line, layer_line, act_line, by_line, to_line, perm_line, key, form, end_text}
+use Rattle.wording.specs.Line.{After, after, otherwise, after_word, value_of, behind_key, line_of}
 use Rattle.wording.specs.Lines.{offset}
 use Rattle.wording.proofs.Line.{after-word_read}
 use Rattle.wording.proofs.Lines.{rest_within}
+use Rattle.theory.proofs.Below.{below_or_not}
 use Rattle.wording.proofs.Truth.{never}
 use Rattle.numbers.specs.Line.{line_read}
-use Rattle.lines.specs.Read.{kind_of, word_read, choice_read, line_at, end_at}
-use Rattle.lines.specs.declared.LineKind.{LineKind}
-use Rattle.lines.specs.declared.LineKind.TheVariants.{N, Soa, Layer, Act, By, To, Perm}
-use Rattle.lines.specs.declared.WordRead.TheVariants.{Next, Other}
-use Rattle.numbers.specs.declared.LineRead.{LineRead}
-use Rattle.numbers.specs.declared.LineRead.TheVariants.{Bad}
+use Rattle.lines.proofs.WordRead.{word-past}
+use Rattle.lines.specs.Read.{word_read, chosen_in, line_at, end_at}
+use Rattle.std.specs.Borrow.{Bor}
+use Rattle.std.specs.declared.option.Option.TheVariants.{Some, None}
 
--- the first of the words, or else one of the others
-choice_first : (text : List ℕ) (c : Choice) (cs : List Choice) (t : List ℕ) →
-    line_read text (chosen (c ∷ cs) t) ≡ choice_read c.number (word_read text (after_word (c.word ++ (lf ∷ [])) t)) (line_read text (chosen cs t))
-unfolding chosen line_read word_read choice_read
-choice_first text c cs t = go (after_word (c.word ++ (lf ∷ [])) t) refl
-  where
-    go : (a : After) → after_word (c.word ++ (lf ∷ [])) t ≡ a →
-        line_read text (chosen (c ∷ cs) t) ≡ choice_read c.number (word_read text a) (line_read text (chosen cs t))
-    go (after rest) e = rw (e, chosen)
-    go otherwise e = rw (e, chosen)
+-- another word than the one asked for
+pub other_word : (text : List ℕ) (a : After) → None ≡ word_read text a → a ≡ otherwise
+unfolding word_read
+other_word text (after rest) e = never (cc)
+other_word text otherwise e = refl
 
-module _ (text t : List ℕ) where
-  -- what the text makes of a word and LF
-  abbrev read_as : Choice → LineRead → LineRead
-  read_as c other = choice_read c.number (word_read text (after_word (c.word ++ (lf ∷ [])) t)) other
+-- the words of a table that are left: the first of them stands there, or it is another and the words behind it are left
+pub record ChoiceSoFar (text : List ℕ) (words : List (Bor (List ℕ) × ℕ)) (t : List ℕ) (k : ℕ) : Type 0 where
+  pub left : chosen_in (drop k words) t ≡ chosen_in words t
 
-  -- one of five words, the last of them tried first
-  pub five_read :
-      (a b c d e : Choice) {first second third fourth fifth : LineRead} → fifth ≡ read_as e Bad → fourth ≡ read_as d fifth → third ≡ read_as c fourth →
-      second ≡ read_as b third → first ≡ read_as a second → first ≡ line_read text (chosen (a ∷ b ∷ c ∷ d ∷ e ∷ []) t)
-  unfolding line_read chosen
-  five_read a b c d e e5 e4 e3 e2 e1 = rw (choice_first, choice_first, choice_first, choice_first, choice_first) (cc)
+module _ {text : List ℕ} {words : List (Bor (List ℕ) × ℕ)} {t : List ℕ} {k : ℕ} (s : ChoiceSoFar text words t k) where
+  pub choice_more :
+      (d : Bor (List ℕ) × ℕ) → k < length words → None ≡ word_read text (after_word (get_or words k d).0.now t) → ChoiceSoFar text words t (k + 1)
+  unfolding chosen_in
+  choice_more d h e = record { left = sym (rw (drop-cons words k d h, add-one, chosen_in, other_word text _ e) refl) ∙ s.left }
 
--- a line needs bytes: past the text's end there is none
-pub no_line : (text : List ℕ) (at : ℕ) (k : Kind) → length text < at → Bad ≡ line_at text at k
-unfolding line_at line_read line_of behind_key after_word key
-no_line text at k h = go k
-  where
-    nothing : drop at text ≡ []
-    nothing = drop_of_length-le text {i = at} (omega arith)
+  pub choice-found :
+      (d : Bor (List ℕ) × ℕ) (next : ℕ) → k < length words → Some next ≡ word_read text (after_word (get_or words k d).0.now t) →
+      Some ((get_or words k d).1, next) ≡ line_read text (chosen_in words t)
+  unfolding chosen_in line_read word_read
+  choice-found d next h e = go (after_word (get_or words k d).0.now t) refl e
+    where
+      go : (a : After) → after_word (get_or words k d).0.now t ≡ a → Some next ≡ word_read text a → Some ((get_or words k d).1, next) ≡ line_read text (chosen_in words t)
+      go (after rest) q f = rw (← s.left, drop-cons words k d h, chosen_in, q) (ap (λ n. Some ((get_or words k d).1, n)) (cc))
+      go otherwise q f = absurd (cc)
 
-    go : (k : Kind) → Bad ≡ line_at text at k
-    go n_line = rw nothing refl
-    go soa_line = rw nothing refl
-    go layer_line = rw nothing refl
-    go act_line = rw nothing refl
-    go by_line = rw nothing refl
-    go to_line = rw nothing refl
-    go perm_line = rw nothing refl
-
-pub no_end : (text : List ℕ) (at : ℕ) → length text < at → Other ≡ end_at text at
-unfolding end_at word_read after_word end_text
-no_end text at h = let nothing : drop at text ≡ [] = drop_of_length-le text {i = at} (omega arith) in rw nothing refl
+  pub choice-none : length words ≤ k → None ≡ line_read text (chosen_in words t)
+  unfolding chosen_in line_read
+  choice-none h = rw (← s.left, drop_of_length-le words {i = k} h) refl
 
 -- a word that is read: it goes on within the text, with what stands behind the word
 pub record WordFound (text : List ℕ) (at : ℕ) (word : List ℕ) (next : ℕ) : Type 0 where
   pub within : next ≤ length text
   pub behind : after_word word (drop at text) ≡ after (drop next text)
 
-pub word-found : (text : List ℕ) (at : ℕ) (word : List ℕ) (next : ℕ) → at ≤ length text → Next next ≡ word_read text (after_word word (drop at text)) → WordFound text at word next
+pub word-found : (text : List ℕ) (at : ℕ) (word : List ℕ) (next : ℕ) → at ≤ length text → Some next ≡ word_read text (after_word word (drop at text)) → WordFound text at word next
 unfolding word_read
 word-found text at word next h e = go (after_word word (drop at text)) refl e
   where
-    go : (a : After) → after_word word (drop at text) ≡ a → Next next ≡ word_read text a → WordFound text at word next
+    go : (a : After) → after_word word (drop at text) ≡ a → Some next ≡ word_read text a → WordFound text at word next
     go (after rest) q f =
         let w = rest_within text at word rest h (after-word_read word (drop at text) rest q) in
         let n : offset text rest ≡ next = cc in
@@ -80,13 +68,24 @@ word-found text at word next h e = go (after_word word (drop at text)) refl e
         record { within = inside; behind = q ∙ ap after part }
     go otherwise q f = never (cc)
 
-pub other_word : (text : List ℕ) (a : After) → Other ≡ word_read text a → a ≡ otherwise
-unfolding word_read
-other_word text (after rest) e = never (cc)
-other_word text otherwise e = refl
+-- each kind has a key of at least two bytes
+pub some_key : (k : Kind) → 0 < length (key k)
+unfolding key
+some_key n_line = omega arith
+some_key soa_line = omega arith
+some_key layer_line = omega arith
+some_key act_line = omega arith
+some_key by_line = omega arith
+some_key to_line = omega arith
+some_key perm_line = omega arith
+
+-- a key that is read stands within the text
+pub key-found : (text : List ℕ) (at : ℕ) (k : Kind) (next : ℕ) → Some next ≡ word_read text (after_word (key k) (drop at text)) → WordFound text at (key k) next
+key-found text at k next e =
+    ⊎_elim (λ past. never (cc (word-past text at (key k) past (some_key k)))) (λ h. word-found text at (key k) next h e) (below_or_not (length text) at)
 
 -- another key, and the key with what stands behind it
-pub other_key : (text : List ℕ) (at : ℕ) (k : Kind) → Other ≡ word_read text (after_word (key k) (drop at text)) → Bad ≡ line_at text at k
+pub other_key : (text : List ℕ) (at : ℕ) (k : Kind) → None ≡ word_read text (after_word (key k) (drop at text)) → None ≡ line_at text at k
 unfolding line_at line_read line_of behind_key
 other_key text at k e = rw (other_word text (after_word (key k) (drop at text)) e) refl
 
@@ -94,13 +93,10 @@ pub behind_key_lem : (text : List ℕ) (at : ℕ) (k : Kind) (next : ℕ) → Wo
 unfolding line_at line_of behind_key
 behind_key_lem text at k next w = rw w.behind refl
 
--- every kind but act and perm has a number
-pub number-form : (k : LineKind) → (k ≡ Act → ⊥) → (k ≡ Perm → ⊥) → form (kind_of k) ≡ decimal
-unfolding form kind_of
-number-form N a p = refl
-number-form Soa a p = refl
-number-form Layer a p = refl
-number-form Act a p = absurd (a refl)
-number-form By a p = refl
-number-form To a p = refl
-number-form Perm a p = absurd (p refl)
+-- a line needs bytes: past the text's end there is none
+pub no_line : (text : List ℕ) (at : ℕ) (k : Kind) → length text < at → None ≡ line_at text at k
+no_line text at k h = other_key text at k (word-past text at (key k) h (some_key k))
+
+pub no_end : (text : List ℕ) (at : ℕ) → length text < at → None ≡ end_at text at
+unfolding end_at end_text
+no_end text at h = word-past text at end_text h (omega arith)

@@ -2,20 +2,11 @@
 // A line reader says no more of a bad line, since its caller knows where the line starts.
 #![tactic(auto)]
 
-ghost use Rattle.std.specs.Prelude.{◌≡◌, ◌-◌, ◌≤◌, length, drop};
+ghost use Rattle.std.specs.Prelude.{◌≡◌, ◌<◌, All, length, drop};
 ghost use Rattle.wording.specs.Word.{key as key_of, acts, perms, form};
 ghost use Rattle.wording.specs.Line.{after_word, chosen, value_of};
 ghost use Rattle.numbers.specs.Line.{line_read};
-ghost use Rattle.lines.specs.Read.{kind_of, word_read, choice_read, line_at, end_at};
-
-use numbers::LineRead;
-
-// Where the text goes on behind a word, or that another word stands there.
-#[derive(Clone, Copy)]
-pub enum WordRead {
-    Next(usize),
-    Other,
-}
+ghost use Rattle.lines.specs.Read.{kind_of, word_read, chosen_in, line_at, end_at};
 
 // The kinds of line that have a value.
 #[derive(Clone, Copy)]
@@ -29,78 +20,83 @@ pub enum LineKind {
     Perm,
 }
 
-// The word, byte by byte.
-fn word(text: &[u8], at: usize, bytes: &[u8]) -> WordRead
-    requires { at ≤ length text.now }
+// Where the text goes on behind the word, if that stands at the byte `at`.
+fn word(text: &[u8], at: usize, bytes: &[u8]) -> Option<usize>
+    requires { 0 < length bytes.now }
     ensures { result ≡ word_read text.now (after_word bytes.now (drop at text.now)) }
 {
-    let mut k = 0;
-    while k < bytes.len() {
-        if text.len() - at <= k {
-            return WordRead::Other;
-        }
-        if text[at + k] != bytes[k] {
-            return WordRead::Other;
-        }
-        k += 1;
-    }
-    WordRead::Next(at + k)
+    let rest = text.get(at..)?.strip_prefix(bytes)?;
+    Some(text.len() - rest.len())
 }
 
-// The value v if the word stands there, and otherwise what the words behind it in the list give.
-fn choice(text: &[u8], at: usize, bytes: &[u8], v: u16, other: LineRead) -> LineRead
-    requires { at ≤ length text.now }
-    ensures { result ≡ choice_read v (word_read text.now (after_word bytes.now (drop at text.now))) other }
+// The number of the first of the words, each with its LF, that stands there, and where the next line starts.
+fn choice(text: &[u8], at: usize, words: &[(&[u8], u16)]) -> Option<(u16, usize)>
+    requires { All (λ w. 0 < length w.0.now) words.now }
+    ensures { result ≡ line_read text.now (chosen_in words.now (drop at text.now)) }
 {
-    let WordRead::Next(next) = word(text, at, bytes) else {
-        return other;
-    };
-    LineRead::Value(v, next)
+    for (bytes, v) in words {
+        if let Some(next) = word(text, at, bytes) {
+            return Some((*v, next));
+        }
+    }
+    None
 }
 
 // One of the words for an act, and LF.
-fn act(text: &[u8], at: usize) -> LineRead
-    requires { at ≤ length text.now }
+#[tactic(auto, unfolding(wording::specs::Word::acts, wording::specs::Line::chosen, crate::specs::Read::chosen_in))]
+fn act(text: &[u8], at: usize) -> Option<(u16, usize)>
     ensures { result ≡ line_read text.now (chosen acts (drop at text.now)) }
 {
-    let sgd = choice(text, at, b"sgd\n", 4, LineRead::Bad);
-    let sld = choice(text, at, b"sld\n", 3, sgd);
-    let wgd = choice(text, at, b"wgd\n", 2, sld);
-    let wld = choice(text, at, b"wld\n", 1, wgd);
-    choice(text, at, b"grant\n", 0, wld)
+    choice(
+        text,
+        at,
+        &[
+            (b"grant\n", 0),
+            (b"wld\n", 1),
+            (b"wgd\n", 2),
+            (b"sld\n", 3),
+            (b"sgd\n", 4),
+        ],
+    )
 }
 
 // One of the words for a permission, or `none`, and LF.
-fn perm(text: &[u8], at: usize) -> LineRead
-    requires { at ≤ length text.now }
+#[tactic(auto, unfolding(wording::specs::Word::perms, wording::specs::Line::chosen, crate::specs::Read::chosen_in))]
+fn perm(text: &[u8], at: usize) -> Option<(u16, usize)>
     ensures { result ≡ line_read text.now (chosen perms (drop at text.now)) }
 {
-    let none = choice(text, at, b"none\n", 0, LineRead::Bad);
-    let ff = choice(text, at, b"FF\n", 1, none);
-    let ft = choice(text, at, b"FT\n", 2, ff);
-    let tf = choice(text, at, b"TF\n", 4, ft);
-    choice(text, at, b"TT\n", 8, tf)
+    choice(
+        text,
+        at,
+        &[
+            (b"TT\n", 8),
+            (b"TF\n", 4),
+            (b"FT\n", 2),
+            (b"FF\n", 1),
+            (b"none\n", 0),
+        ],
+    )
 }
 
-// The key of the kind, as `by=`.
-fn key(text: &[u8], at: usize, kind: LineKind) -> WordRead
-    requires { at ≤ length text.now }
-    ensures { result ≡ word_read text.now (after_word (key_of (kind_of kind)) (drop at text.now)) }
+// The key of the kind.
+#[tactic(auto, unfolding(crate::specs::Read::kind_of, wording::specs::Word::key))]
+fn key(kind: LineKind) -> &'static [u8]
+    ensures { result.now ≡ key_of (kind_of kind) }
 {
     match kind {
-        LineKind::N => word(text, at, b"n="),
-        LineKind::Soa => word(text, at, b"soa="),
-        LineKind::Layer => word(text, at, b"layer="),
-        LineKind::Act => word(text, at, b"act="),
-        LineKind::By => word(text, at, b"by="),
-        LineKind::To => word(text, at, b"to="),
-        LineKind::Perm => word(text, at, b"perm="),
+        LineKind::N => b"n=",
+        LineKind::Soa => b"soa=",
+        LineKind::Layer => b"layer=",
+        LineKind::Act => b"act=",
+        LineKind::By => b"by=",
+        LineKind::To => b"to=",
+        LineKind::Perm => b"perm=",
     }
 }
 
 // What stands behind the key: a number or one of the words, and LF.
-fn value(text: &[u8], at: usize, kind: LineKind) -> LineRead
-    requires { at ≤ length text.now }
+#[tactic(auto, unfolding(wording::specs::Word::form, wording::specs::Line::value_of, crate::specs::Read::kind_of))]
+fn value(text: &[u8], at: usize, kind: LineKind) -> Option<(u16, usize)>
     ensures { result ≡ line_read text.now (value_of (form (kind_of kind)) (drop at text.now)) }
 {
     match kind {
@@ -110,25 +106,18 @@ fn value(text: &[u8], at: usize, kind: LineKind) -> LineRead
     }
 }
 
-// What stands at the byte `at` as a line of the kind.
-pub fn line(text: &[u8], at: usize, kind: LineKind) -> LineRead
+// What stands at the byte `at` as a line of the kind: its value, and where the next line starts.
+pub fn line(text: &[u8], at: usize, kind: LineKind) -> Option<(u16, usize)>
     ensures { result ≡ line_at text.now at (kind_of kind) }
 {
-    if text.len() < at {
-        return LineRead::Bad;
-    }
-    let WordRead::Next(start) = key(text, at, kind) else {
-        return LineRead::Bad;
-    };
+    let start = word(text, at, key(kind))?;
     value(text, start, kind)
 }
 
-// Whether the end line stands at the byte `at`.
-pub fn end_line(text: &[u8], at: usize) -> WordRead
+// Where the text goes on behind the end line, if that stands at the byte `at`.
+#[tactic(auto, unfolding(wording::specs::Word::end_text, crate::specs::Read::end_at))]
+pub fn end_line(text: &[u8], at: usize) -> Option<usize>
     ensures { result ≡ end_at text.now at }
 {
-    if text.len() < at {
-        return WordRead::Other;
-    }
     word(text, at, b"end=register\n")
 }

@@ -1,4 +1,4 @@
--- Reading on by one byte, at a place in the text. Assumes nothing.
+-- Reading on by one byte, at a place in the text.
 use Prim.Native.Nat.{ℕ, ◌+◌, ◌≤◌, ◌<◌}
 use mathlib.Core.Path.{◌≡◌}
 use mathlib.Core.List.{List, ◌∷◌}

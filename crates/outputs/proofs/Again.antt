@@ -1,4 +1,4 @@
--- An output that a reader can foretell. Assumes nothing.
+-- An output that a reader can foretell.
 use Prim.Native.Nat.{ℕ, ◌≤◌}
 use mathlib.Core.Path.{◌≡◌, ap, sym, ◌∙◌}
 use mathlib.Core.List.{List, [], append-nil}

@@ -1,5 +1,5 @@
 -- The register at the start of an input, as code reads it: what is written where it is refused, and what the commands behind it
--- begin with. Assumes nothing.
+-- begin with.
 use Prim.Native.Nat.{ℕ, ◌+◌, ◌*◌, ◌≤◌}
 use native.Mathlib.Nat.{mul-le-mul}
 use native.Mathlib.Omega.{arith}

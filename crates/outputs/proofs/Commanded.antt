@@ -1,5 +1,5 @@
 -- The output for a register and commands that were written as text: the answer of each command in turn, and the register that a run of
--- them leaves. Assumes nothing.
+-- them leaves.
 use Prim.Native.Nat.{ℕ, ◌+◌, ◌*◌, ◌≤◌}
 use native.Mathlib.Nat.{mul-le-mul}
 use native.Mathlib.Omega.{arith}

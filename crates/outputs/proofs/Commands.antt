@@ -1,4 +1,4 @@
--- The output for the commands of a text, one command at a time. Assumes nothing.
+-- The output for the commands of a text, one command at a time.
 use Prim.Native.Nat.{ℕ, zero, suc, ◌+◌, ◌≤◌}
 use native.Mathlib.Omega.{arith}
 use mathlib.Core.Path.{◌≡◌, refl, ap, sym, ◌∙◌}

@@ -1,25 +1,62 @@
--- A writer that is lent a room from a place on: its text stands there, and the next one begins behind it. Assumes nothing.
+-- Texts of bounded length on a page: none, one behind the other, and the text of a writer that is lent the rest of the page.
 use Prim.Native.Nat.{ℕ, ◌+◌, ◌-◌, ◌≤◌}
 use native.Mathlib.Omega.{arith}
-use mathlib.Core.Path.{◌≡◌}
-use mathlib.Core.List.{List}
-use lib.ListN.{length}
+use mathlib.Core.Path.{◌≡◌, refl}
+use mathlib.Core.List.{List, [], ◌++◌, append-nil, append_assoc}
+use lib.ListN.{length, drop, length-drop, drop_of_length-le}
+use lib.Seq.{sets-eq, take_all, drop-drop}
+use borrow.Rule.Slice.Mut.{set_vals}
 use borrow.Rule.Slice.PartMut.{mid_of, put_mid}
-use Rattle.wording.specs.Writer.{written_behind}
-use Rattle.printing.specs.Put.{Put}
+use Rattle.wording.specs.Writer.{written, written_behind}
+use Rattle.wording.proofs.Writers.{room-enough}
 use Rattle.printing.specs.Told.{Told}
+use Rattle.printing.specs.declared.Page.{Page}
 use Rattle.printing.specs.declared.Written.{Written}
-use Rattle.printing.proofs.Told.{told_part}
-
--- the text stands in the room from `at` on, and takes so many bytes at most
-pub record PutWithin (bound : ℕ) (text before : List ℕ) (at : ℕ) (after : List ℕ) (end : ℕ) : Type 0 where
-  pub text_put : Put text before at after end
-  pub few : end ≤ at + bound
+use Rattle.printing.proofs.Adds.{adds_none, adds_both, adds_length}
+use Rattle.outputs.specs.Within.{HasRoom, AddsWithin}
 
 pub put_part :
-    {part : List ℕ} {result : Written} (refusal bound at : ℕ) (text room : List ℕ) → refusal ≡ 0 → at + bound ≤ length room → length text ≤ bound →
-    Told (written_behind refusal (mid_of at (length room - at) room) text) result part →
-    PutWithin bound text room at (put_mid at (length room - at) room part) (at + result.size)
-put_part refusal bound at text room none fits short told =
-    let put = told_part {text = text} {room = room} at (record { enough = omega arith }) (rw none at told) in
-    record { text_put = put; few = omega (arith, put.ends) }
+    {part : List ℕ} {result : Written} (before : Page) (refusal bound : ℕ) (text : List ℕ) → refusal ≡ 0 →
+    HasRoom bound before → length text ≤ bound →
+    Told (written_behind refusal (mid_of before.at (length before.room.now - before.at) before.room.now) text) result part →
+    AddsWithin bound text before
+    (record {
+      room = set_vals (put_mid before.at (length before.room.now - before.at) before.room.now part) before.room;
+      at = before.at + result.size;
+    })
+unfolding written
+put_part before refusal bound text none room few told =
+    let rest = drop before.at before.room.now in
+    let size = length-drop before.at before.room.now in
+    let short : length rest ≤ length before.room.now - before.at = omega arith in
+    let enough : length text ≤ length rest = omega (arith, room.enough) in
+    let fits : before.at + length text ≤ length before.room.now = omega (arith, room.enough) in
+    let there = rw (none, take_all (length before.room.now - before.at) rest short, room-enough rest text enough) at told in
+    record {
+      adds =
+          record {
+            same = refl;
+            ends = omega (arith, there.sized);
+            holds =
+                simp (there.left, drop_of_length-le rest short, append-nil, drop-drop, sets-eq text before.room.now before.at fits, append_assoc);
+          };
+      few = omega (arith, there.sized);
+    }
+
+pub within_none : {page : Page} → AddsWithin 0 [] page page
+within_none = record { adds = adds_none; few = omega arith }
+
+pub within_both :
+    {before between after : Page} {xs ys : List ℕ} {m n : ℕ} → AddsWithin m xs before between → AddsWithin n ys between after →
+    AddsWithin (m + n) (xs ++ ys) before after
+within_both p q = record { adds = adds_both p.adds q.adds; few = omega (arith, p.few, q.few) }
+
+pub within_wider : {before after : Page} {xs : List ℕ} {m : ℕ} (n : ℕ) → m ≤ n → AddsWithin m xs before after → AddsWithin n xs before after
+within_wider n le p = record { adds = p.adds; few = omega (arith, p.few) }
+
+-- what is left behind a text
+pub room_behind : {before between : Page} {xs : List ℕ} {m : ℕ} (n k : ℕ) → AddsWithin m xs before between → m + k ≤ n → HasRoom n before → HasRoom k between
+room_behind n k p le room = record { enough = omega (arith, room.enough, p.few, adds_length p.adds) }
+
+pub room_smaller : {page : Page} {n : ℕ} (k : ℕ) → k ≤ n → HasRoom n page → HasRoom k page
+room_smaller k le room = record { enough = omega (arith, room.enough) }

@@ -1,4 +1,4 @@
--- How long the lines of an output are at most. Assumes nothing.
+-- How long the lines of an output are at most.
 use Prim.Native.Nat.{ℕ, ◌+◌, ◌^◌, ◌≤◌, ◌<◌}
 use native.Mathlib.Omega.{arith}
 use mathlib.Core.List.{List}

@@ -1,4 +1,4 @@
--- One command of a text, as code reads it and carries it out: what it adds to the output, and what is left. Assumes nothing.
+-- One command of a text, as code reads it and carries it out: what it adds to the output, and what is left.
 use Prim.Native.Nat.{ℕ, ◌+◌, ◌≤◌}
 use native.Mathlib.Omega.{arith}
 use mathlib.Core.Path.{◌≡◌, sym, ◌∙◌}

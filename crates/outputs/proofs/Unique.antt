@@ -1,4 +1,4 @@
--- No second outcome: at most one answer, one length and one room satisfy the contract, whatever the input. Assumes nothing.
+-- No second outcome: at most one answer, one length and one room satisfy the contract, whatever the input.
 use mathlib.Core.Path.{◌≡◌}
 use Rattle.printing.specs.declared.Written.{Written}
 use Rattle.printing.proofs.Unique.{told_once}

@@ -1,4 +1,4 @@
--- The whole output: which one it is, and that it is told. Assumes nothing.
+-- The whole output: which one it is, and that it is told.
 use Prim.Native.Nat.{ℕ, ◌≤◌, ◌<◌}
 use native.Mathlib.Omega.{arith}
 use mathlib.Core.Path.{◌≡◌}
@@ -8,9 +8,10 @@ use borrow.Author.Tests.{lt-ltb, le-ltb, le-leb, lt-leb}
 use Rattle.rights.specs.Sound.{unless}
 use Rattle.wording.specs.RegisterReader.{register_read}
 use Rattle.answers.specs.Answers.{refused_text}
-use Rattle.printing.specs.Put.{Put}
+use Rattle.printing.specs.declared.Page.{Page}
 use Rattle.printing.specs.Told.{Told}
 use Rattle.printing.proofs.Told.{told_refused, told_done}
+use Rattle.outputs.specs.Within.{AddsWithin}
 use Rattle.outputs.specs.Output.{behind_register, output, output_written}
 
 -- 'Input too long (15, checked first)'
@@ -29,7 +30,8 @@ module _ (input room : List ℕ) where
   room_short short = rw (lt-leb 1700000 (length room) short) (told_refused 14 room (output input) (λ e. omega (arith, e)))
 
   pub output_told :
-      {after : List ℕ} {size : ℕ} → 1700000 ≤ length room → size ≤ 1700000 → Put (output input) room 0 after size →
-      Told (output_written input room) (record { answer = 0; size = size }) after
+      {before after : Page} → 1700000 ≤ length before.room.now → before.at ≡ 0 → AddsWithin 1700000 (output input) before after → room ≡ after.room.now →
+      Told (output_written input before.room.now) (record { answer = 0; size = after.at }) room
   unfolding output_written unless
-  output_told large few put = rw (le-leb 1700000 (length room) large) (told_done (record { enough = omega (arith, put.ends) }) put)
+  output_told {before} large start put last =
+      rw (le-leb 1700000 (length before.room.now) large) (told_done start (record { enough = omega (arith, put.adds.ends, put.few) }) put.adds last)

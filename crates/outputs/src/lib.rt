@@ -2,140 +2,125 @@
 // written. A room that holds the longest output is asked for first, so nothing is ever cut.
 #![tactic(auto)]
 
-ghost use Rattle.std.specs.Prelude.{◌≡◌, ◌+◌, ◌*◌, ◌≤◌, ◌<◌, length, replicate, true};
+ghost use Rattle.std.specs.Prelude.{◌≡◌, ◌+◌, ◌*◌, ◌≤◌, ◌<◌, length, true};
 ghost use Rattle.rights.specs.Sound.{headed, register_refusal};
 ghost use Rattle.wording.specs.Word.{end_text};
 ghost use Rattle.wording.specs.Lines.{header_text};
-ghost use Rattle.wording.specs.RegisterReader.{register_read};
 ghost use Rattle.wording.specs.Records.{joined, row_text, register_text};
 ghost use Rattle.answers.specs.Answers.{answer_text, refused_text};
-ghost use Rattle.printing.specs.Put.{Put};
 ghost use Rattle.printing.specs.Told.{Told};
-ghost use Rattle.outputs.specs.Output.{commands_output, behind_register, output_written};
+ghost use Rattle.outputs.specs.Within.{HasRoom, AddsWithin};
+ghost use Rattle.outputs.specs.Output.{commands_output, output, output_written};
 
 use commands::Outcome;
-use printing::Written;
-use rights::{Header, Office};
+use printing::{Page, Written};
+use registers::Register;
+use rights::{Header, Office, Refusal};
 
-// Writes what a command answered from a place on, and gives the place behind it.
-fn put_answer(room: &mut [u8], from: usize, done: Outcome) -> usize
-    requires { from + 54 ≤ length room.old }
-    ensures text { Put (answer_text done.answer done.removed done.added) room.old from room.new result }
-    ensures few { result ≤ from + 54 }
+// Writes what a command answered.
+fn put_answer(page: &mut Page, done: Outcome)
+    requires { HasRoom 54 page.old }
+    ensures { AddsWithin 54 (answer_text done.answer done.removed done.added) page.old page.new }
 {
-    let lines = answers::write_answer(done.answer, done.removed, done.added, &mut room[from..]);
-    from + lines.size
+    let room = &mut page.room[page.at..];
+    let lines = answers::write_answer(done.answer, done.removed, done.added, room);
+    page.at += lines.size;
 }
 
 // Writes that a text is refused, and where in the input its first bad line starts.
-fn put_refused(room: &mut [u8], from: usize, number: u8, at: usize) -> usize
-    requires { (from + 33 ≤ length room.old) × (at ≤ 65536) }
-    ensures text { Put (refused_text number at) room.old from room.new result }
-    ensures few { result ≤ from + 33 }
+fn put_refused(page: &mut Page, number: u8, at: usize)
+    requires { HasRoom 33 page.old × (at ≤ 65536) }
+    ensures { AddsWithin 33 (refused_text number at) page.old page.new }
 {
-    let lines = answers::write_refused(number, at as u32, &mut room[from..]);
-    from + lines.size
+    let room = &mut page.room[page.at..];
+    let lines = answers::write_refused(number, at as u32, room);
+    page.at += lines.size;
 }
 
 // Writes the row of one office.
-fn put_row(cells: &[u8], header: Header, row: Office, room: &mut [u8], from: usize) -> usize
-    requires { (register_refusal header cells.now ≡ 0) × (row.0 < header.n) × (from + 11264 ≤ length room.old) }
-    ensures text { Put (row_text header cells.now row.0) room.old from room.new result }
-    ensures few { result ≤ from + 11264 }
+fn put_row(page: &mut Page, register: &Register, row: Office)
+    requires { (register_refusal register.now.header register.now.cells.now ≡ 0) × (row.0 < register.now.header.n) × HasRoom 11264 page.old }
+    ensures { AddsWithin 11264 (row_text register.now.header register.now.cells.now row.0) page.old page.new }
 {
-    let lines = row_writer::write_row(cells, header, row, &mut room[from..]);
-    from + lines.size
+    let room = &mut page.room[page.at..];
+    let lines = row_writer::write_row(register.cells, register.header, row, room);
+    page.at += lines.size;
 }
 
 // Writes the rows of all offices.
-fn put_rows(cells: &[u8], header: Header, room: &mut [u8], from: usize) -> usize
-    requires { (register_refusal header cells.now ≡ 0) × (from + 11264 * header.n ≤ length room.old) }
-    ensures text { Put (joined header.n (row_text header cells.now)) room.old from room.new result }
-    ensures few { result ≤ from + 11264 * header.n }
+fn put_rows(page: &mut Page, register: &Register)
+    requires { (register_refusal register.now.header register.now.cells.now ≡ 0) × HasRoom (11264 * register.now.header.n) page.old }
+    ensures { AddsWithin (11264 * register.now.header.n) (joined register.now.header.n (row_text register.now.header register.now.cells.now)) page.old page.new }
 {
-    let n = header.n;
-    let mut next = from;
-    let mut row = 0;
-    while row < n {
-        next = put_row(cells, header, Office(row), room, next);
-        row += 1;
+    for row in 0..register.header.n {
+        put_row(page, register, Office(row));
     }
-    next
 }
 
 // Writes the header of a register.
-fn put_header(header: Header, room: &mut [u8], from: usize) -> usize
-    requires { (headed header ≡ true) × (from + 26 ≤ length room.old) }
-    ensures text { Put (header_text header) room.old from room.new result }
-    ensures few { result ≤ from + 26 }
+fn put_header(page: &mut Page, header: Header)
+    requires { (headed header ≡ true) × HasRoom 26 page.old }
+    ensures { AddsWithin 26 (header_text header) page.old page.new }
 {
-    let lines = frames::write_header(header, &mut room[from..]);
-    from + lines.size
+    let lines = frames::write_header(header, &mut page.room[page.at..]);
+    page.at += lines.size;
 }
 
 // Writes the line behind the last row.
-fn put_end(room: &mut [u8], from: usize) -> usize
-    requires { from + 13 ≤ length room.old }
-    ensures text { Put end_text room.old from room.new result }
-    ensures few { result ≤ from + 13 }
+fn put_end(page: &mut Page)
+    requires { HasRoom 13 page.old }
+    ensures { AddsWithin 13 end_text page.old page.new }
 {
-    let line = frames::write_end(&mut room[from..]);
-    from + line.size
+    let line = frames::write_end(&mut page.room[page.at..]);
+    page.at += line.size;
 }
 
 // Writes a register's text: header, rows, end.
-fn put_register(cells: &[u8], header: Header, room: &mut [u8], from: usize) -> usize
-    requires { (register_refusal header cells.now ≡ 0) × (from + 1441831 ≤ length room.old) }
-    ensures text { Put (register_text header cells.now) room.old from room.new result }
-    ensures few { result ≤ from + 1441831 }
+fn put_register(page: &mut Page, register: &Register)
+    requires { (register_refusal register.now.header register.now.cells.now ≡ 0) × HasRoom 1441831 page.old }
+    ensures { AddsWithin 1441831 (register_text register.now.header register.now.cells.now) page.old page.new }
 {
-    let rows = put_header(header, room, from);
-    let end = put_rows(cells, header, room, rows);
-    put_end(room, end)
+    put_header(page, register.header);
+    put_rows(page, register);
+    put_end(page);
 }
 
 // Runs the commands of a text one at a time and writes their answers, and behind them the register; a refused text ends it. The
 // text is what the input has from the byte `at` on. A command has five keys and five LF, 26 bytes, so three for each byte hold every
 // answer.
-fn put_commands(
-    text: &[u8],
-    at: usize,
-    cells: &mut [u8],
-    header: Header,
-    room: &mut [u8],
-    from: usize,
-) -> usize
-    requires { (register_refusal header cells.old ≡ 0) × (at + length text.now ≤ 65536) × (from + 3 * length text.now + 1441831 ≤ length room.old) }
-    ensures text { Put (commands_output header cells.old at text.now) room.old from room.new result }
-    ensures few { result ≤ from + 3 * length text.now + 1441831 }
+fn put_commands(page: &mut Page, text: &[u8], at: usize, cells: &mut [u8], header: Header)
+    requires { (register_refusal header cells.old ≡ 0) × (at + length text.now ≤ 65536) × HasRoom (3 * length text.now + 1441831) page.old }
+    ensures { AddsWithin (3 * length text.now + 1441831) (commands_output header cells.old at text.now) page.old page.new }
 {
-    if text.len() == 0 {
-        return put_register(cells, header, room, from);
+    if text.is_empty() {
+        return put_register(page, &Register { cells, header });
     }
     let read = command_reader::read_command(text);
     if read.answer != 0 {
-        return put_refused(room, from, read.answer, at + read.at);
+        return put_refused(page, read.answer, at + read.at);
     }
     let done = commands::command(cells, header, read.command);
-    let next = put_answer(room, from, done);
+    put_answer(page, done);
     let rest = rests::command_rest(text, read);
-    put_commands(rest, at + read.next, cells, header, room, next)
+    put_commands(page, rest, at + read.next, cells, header);
 }
 
-// Reads the register and runs the commands behind it.
-fn put_output(input: &[u8], room: &mut [u8]) -> usize
-    requires { (length input.now ≤ 65536) × (1700000 ≤ length room.old) }
-    ensures text { Put (behind_register (register_read input.now (replicate 16384 0))) room.old 0 room.new result }
-    ensures few { result ≤ 1700000 }
+// Writes what an input comes to: that it is too long, or the commands behind its register.
+fn put_output(page: &mut Page, input: &[u8])
+    requires { HasRoom 1700000 page.old }
+    ensures { AddsWithin 1700000 (output input.now) page.old page.new }
 {
+    if 65536 < input.len() {
+        return put_refused(page, Refusal::LongInput.number(), 0);
+    }
     let mut buffer = [0u8; 16384];
     let read = register_reader::read_register(input, &mut buffer);
     if read.answer != 0 {
-        return put_refused(room, 0, read.answer, read.at);
+        return put_refused(page, read.answer, read.at);
     }
     let size = read.header.n as usize * read.header.n as usize;
     let rest = rests::register_rest(input, read);
-    put_commands(rest, read.next, &mut buffer[0..size], read.header, room, 0)
+    put_commands(page, rest, read.next, &mut buffer[..size], read.header);
 }
 
 // The whole output for an input, at the start of the room.
@@ -144,15 +129,9 @@ pub fn write_output(input: &[u8], room: &mut [u8]) -> Written
     ensures few { result.size ≤ 1700000 }
 {
     if room.len() < 1700000 {
-        return Written {
-            answer: 14,
-            size: 0,
-        };
+        return Written::from(Err(Refusal::LittleRoom));
     }
-    if 65536 < input.len() {
-        let size = put_refused(room, 0, 15, 0);
-        return Written { answer: 0, size };
-    }
-    let size = put_output(input, room);
-    Written { answer: 0, size }
+    let mut page = Page { room, at: 0 };
+    put_output(&mut page, input);
+    Written::from(Ok(page.at))
 }

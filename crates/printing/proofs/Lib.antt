@@ -1,4 +1,4 @@
 -- What the proofs of several functions share.
-pub mod Put
+pub mod Adds
 pub mod Told
 pub mod Unique

@@ -1,4 +1,4 @@
 -- What the writers of lines cite besides the definitions of the text.
-pub mod Put
+pub mod Page
 pub mod Told
 pub mod NumberLine

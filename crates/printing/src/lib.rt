@@ -1,13 +1,16 @@
-// Numbers and lines written into a room that is lent. What is written by a public function is measured first, so that a room that
-// is too small is left as it was; the functions below those ask for the room.
+// Numbers and lines written into a room that is lent. What is written by a function that answers is measured first, so that a room
+// that is too small is left as it was; the methods of a page ask for the room.
 #![tactic(auto)]
 
-ghost use Rattle.std.specs.Prelude.{◌≡◌, [], ◌∷◌, ◌++◌, ◌≤◌, length};
+ghost use Rattle.std.specs.Prelude.{◌≡◌, [], ◌∷◌, ◌+◌, ◌<◌, length, MatchOption};
+ghost use Rattle.std.specs.List.{flat_map};
 ghost use Rattle.wording.specs.Line.{numeral};
 ghost use Rattle.wording.specs.Writer.{written_behind};
-ghost use Rattle.printing.specs.Told.{Told};
-ghost use Rattle.printing.specs.Put.{Room, Put};
-ghost use Rattle.printing.specs.NumberLine.{number_line};
+ghost use Rattle.printing.specs.Told.{Told, IsWritten, written_of};
+ghost use Rattle.printing.specs.Page.{Fits, Adds};
+ghost use Rattle.printing.specs.NumberLine.{line_bytes};
+
+use rights::Refusal;
 
 // What a writer answers: 0 or the refusal, and the length of what it wrote.
 #[repr(C)]
@@ -17,56 +20,80 @@ pub struct Written {
     pub size: usize,
 }
 
-// Writes a byte, and gives the place behind it.
-fn put_byte(room: &mut [u8], at: usize, b: u8) -> usize
-    requires { Room (b ∷ []) room.old at }
-    ensures { Put (b ∷ []) room.old at room.new result }
-{
-    room[at] = b;
-    at + 1
-}
+impl From<Result<usize, Refusal>> for Written {
+    ghost from_gives = { IsWritten };
 
-// Writes bytes from a place on.
-fn put_bytes(room: &mut [u8], at: usize, text: &[u8]) -> usize
-    requires { Room text.now room.old at }
-    ensures { Put text.now room.old at room.new result }
-{
-    let mut next = at;
-    let mut k = 0;
-    while k < text.len() {
-        next = put_byte(room, next, text[k]);
-        k += 1;
+    fn from(outcome: Result<usize, Refusal>) -> Written {
+        match outcome {
+            Ok(size) => Written { answer: 0, size },
+            Err(refusal) => Written {
+                answer: refusal.number(),
+                size: 0,
+            },
+        }
     }
-    next
 }
 
-// Writes a number in decimal: its last digit stands behind the others.
-fn put_number(room: &mut [u8], at: usize, v: u32) -> usize
-    requires { Room (numeral v) room.old at }
-    ensures { Put (numeral v) room.old at room.new result }
-{
-    if v < 10 {
-        return put_byte(room, at, 48 + v as u8);
+// A line: its key, its number in decimal, LF.
+#[derive(Clone, Copy)]
+pub struct Line<'a>(pub &'a [u8], pub u32);
+
+impl Line<'_> {
+    // How long the line is.
+    fn size(&self) -> usize
+        ensures { result ≡ length (line_bytes self.now) }
+    {
+        self.0.len() + numbers::digits(self.1) + 1
     }
-    let next = put_number(room, at, v / 10);
-    put_byte(room, next, 48 + (v % 10) as u8)
 }
 
-// Writes a line: its key, a number, LF.
-fn put_line(room: &mut [u8], at: usize, key: &[u8], v: u32) -> usize
-    requires { Room (number_line key.now v) room.old at }
-    ensures { Put (number_line key.now v) room.old at room.new result }
-{
-    let behind_key = put_bytes(room, at, key);
-    let behind_number = put_number(room, behind_key, v);
-    put_byte(room, behind_number, 10)
+// A room that is written from its start on, and the place behind what stands in it.
+#[derive(Drop)]
+pub struct Page<'a> {
+    pub room: &'a mut [u8],
+    pub at: usize,
 }
 
-// How long a line is.
-fn line_size(key: &[u8], v: u32) -> usize
-    ensures { result ≡ length (number_line key.now v) }
-{
-    key.len() + numbers::digits(v) + 1
+impl Page<'_> {
+    // Writes a byte.
+    fn put_byte(&mut self, b: u8)
+        requires { Fits (b ∷ []) self.old }
+        ensures { Adds (b ∷ []) self.old self.new }
+    {
+        self.room[self.at] = b;
+        self.at += 1;
+    }
+
+    // Writes bytes behind what stands on the page.
+    pub fn put_bytes(&mut self, text: &[u8])
+        requires { Fits text.now self.old }
+        ensures { Adds text.now self.old self.new }
+    {
+        let end = self.at + text.len();
+        self.room[self.at..end].copy_from_slice(text);
+        self.at = end;
+    }
+
+    // Writes a number in decimal: its last digit stands behind the others.
+    fn put_number(&mut self, v: u32)
+        requires { Fits (numeral v) self.old }
+        ensures { Adds (numeral v) self.old self.new }
+    {
+        if 10 <= v {
+            self.put_number(v / 10);
+        }
+        self.put_byte(b'0' + (v % 10) as u8);
+    }
+
+    // Writes a line behind what stands on the page.
+    pub fn put_line(&mut self, line: &Line)
+        requires { Fits (line_bytes line.now) self.old }
+        ensures { Adds (line_bytes line.now) self.old self.new }
+    {
+        self.put_bytes(line.0);
+        self.put_number(line.1);
+        self.put_byte(b'\n');
+    }
 }
 
 // Writes bytes, if there is room for them.
@@ -74,64 +101,40 @@ pub fn write_bytes(text: &[u8], room: &mut [u8]) -> Written
     ensures { Told (written_behind 0 room.old text.now) result room.new }
 {
     if room.len() < text.len() {
-        return Written {
-            answer: 14,
-            size: 0,
-        };
+        return Written::from(Err(Refusal::LittleRoom));
     }
-    let size = put_bytes(room, 0, text);
-    Written { answer: 0, size }
+    let mut page = Page { room, at: 0 };
+    page.put_bytes(text);
+    Written::from(Ok(page.at))
 }
 
-// Writes two lines, if there is room for them. Each is held against what the one before it leaves, since the lengths of two
-// slices may have no sum.
-pub fn write_two(a: &[u8], x: u32, b: &[u8], y: u32, room: &mut [u8]) -> Written
-    ensures { Told (written_behind 0 room.old (number_line a.now x ++ number_line b.now y)) result room.new }
+// How much of a room lines leave; nothing where they are longer. Each is held against what the one before it leaves, since the lengths
+// of slices may have no sum.
+fn left_behind(lines: &[Line], room: usize) -> Option<usize>
+    ensures { MatchOption result (room < length (flat_map line_bytes lines.now)) (λ left. left + length (flat_map line_bytes lines.now) ≡ room) }
 {
-    let first = line_size(a, x);
-    if room.len() < first {
-        return Written {
-            answer: 14,
-            size: 0,
-        };
+    let mut left = room;
+    for line in lines {
+        left = left.checked_sub(line.size())?;
     }
-    if room.len() - first < line_size(b, y) {
-        return Written {
-            answer: 14,
-            size: 0,
-        };
-    }
-    let behind_first = put_line(room, 0, a, x);
-    let size = put_line(room, behind_first, b, y);
-    Written { answer: 0, size }
+    Some(left)
 }
 
-// Writes three lines, if there is room for them.
-pub fn write_three(a: &[u8], x: u32, b: &[u8], y: u32, c: &[u8], z: u32, room: &mut [u8]) -> Written
-    ensures { Told (written_behind 0 room.old (number_line a.now x ++ (number_line b.now y ++ number_line c.now z))) result room.new }
+// Writes lines at the start of a room, if there is room for them.
+fn try_lines(lines: &[Line], room: &mut [u8]) -> Result<usize, Refusal>
+    ensures { Told (written_behind 0 room.old (flat_map line_bytes lines.now)) (written_of result) room.new }
 {
-    let first = line_size(a, x);
-    if room.len() < first {
-        return Written {
-            answer: 14,
-            size: 0,
-        };
+    left_behind(lines, room.len()).ok_or(Refusal::LittleRoom)?;
+    let mut page = Page { room, at: 0 };
+    for line in lines {
+        page.put_line(line);
     }
-    let second = line_size(b, y);
-    if room.len() - first < second {
-        return Written {
-            answer: 14,
-            size: 0,
-        };
-    }
-    if room.len() - first - second < line_size(c, z) {
-        return Written {
-            answer: 14,
-            size: 0,
-        };
-    }
-    let behind_first = put_line(room, 0, a, x);
-    let behind_second = put_line(room, behind_first, b, y);
-    let size = put_line(room, behind_second, c, z);
-    Written { answer: 0, size }
+    Ok(page.at)
+}
+
+// Writes lines, if there is room for them.
+pub fn write_lines(lines: &[Line], room: &mut [u8]) -> Written
+    ensures { Told (written_behind 0 room.old (flat_map line_bytes lines.now)) result room.new }
+{
+    Written::from(try_lines(lines, room))
 }

@@ -1,4 +1,4 @@
--- Storing a record in a buffer with room for the register is granting it, and the bytes behind the register stay. Assumes nothing.
+-- Storing a record in a buffer with room for the register is granting it, and the bytes behind the register stay.
 use Prim.Native.Nat.{ℕ, ◌+◌, ◌*◌, ◌-◌, ◌/◌, ◌%◌, ◌≤◌, ◌<◌}
 use mathlib.Core.Path.{◌≡◌, refl, sym, ap, ◌∙◌}
 use mathlib.Core.Logic.{⊎_elim}

@@ -1,40 +1,28 @@
--- A record and its cell: whether it is outside, whether there is room, and what is stored. Assumes nothing.
-use Prim.Native.Nat.{ℕ, ◌<◌}
+-- A record and its cell: whether there is one, whether there is room, and what is stored.
+use Prim.Native.Nat.{ℕ, ◌<◌, ◌≤◌}
 use mathlib.Core.Path.{◌≡◌, refl}
-use mathlib.Core.Bool.{Bool, true, false, ◌&&◌, not}
+use mathlib.Core.Bool.{true, false}
 use mathlib.Core.List.{List}
-use lib.Dec.{ltb, leb}
 use lib.ListN.{length, get_or, set}
-use borrow.Author.Tests.{ltb-true, ltb-false, lt-ltb, le-leb, lt-leb}
+use borrow.Author.Tests.{lt-ltb, le-ltb}
+use Rattle.std.proofs.Math.Bool.{and-false}
 use Rattle.rights.specs.declared.Header.{Header}
 use Rattle.rights.specs.Cell.{union}
-use Rattle.theory.proofs.Tests.{right_of}
 use Rattle.wording.specs.Records.{Record}
-use Rattle.wording.specs.RegisterReader.{outside}
+use Rattle.wording.specs.RegisterReader.{in_range}
 use Rattle.records.specs.Stored.{place_of, room_for, stored_one}
 
-not_below : (a b : ℕ) → leb b a ≡ not (ltb a b)
-not_below a b = go (ltb a b) refl
-  where
-    go : (t : Bool) → ltb a b ≡ t → leb b a ≡ not t
-    go true e = lt-leb b a (ltb-true a b e)
-    go false e = le-leb b a (ltb-false a b e)
-
--- where the grantor is an office, the subject decides
-pub outside_by_subject : (h : Header) (r : Record) → r.by < h.n → leb h.n r.to ≡ outside h r
-unfolding outside
-outside_by_subject h r e = rw (lt-ltb r.by h.n e) (not_below r.to h.n)
-
-pub room_below : (h : Header) (size : ℕ) (r : Record) → room_for h size r ≡ true → place_of h r < size
-unfolding room_for
-room_below h size r e = ltb-true (place_of h r) size (right_of (ltb r.by h.n && ltb r.to h.n) (ltb (place_of h r) size) e)
-
 pub stored_there :
-    (h : Header) (cells : List ℕ) (r : Record) → room_for h (length cells) r ≡ true →
+    (h : Header) (cells : List ℕ) (r : Record) → in_range h r ≡ true → place_of h r < length cells →
     set cells (place_of h r) (union (get_or cells (place_of h r) 0) r.perm) ≡ stored_one h cells r
-unfolding stored_one
-stored_there h cells r e = rw e refl
+unfolding stored_one room_for
+stored_there h cells r e less = rw (e, lt-ltb _ _ less) refl
 
-pub not-stored : (h : Header) (cells : List ℕ) (r : Record) → room_for h (length cells) r ≡ false → cells ≡ stored_one h cells r
-unfolding stored_one
-not-stored h cells r e = rw e refl
+-- no room in the buffer, and no cell
+pub no_room : (h : Header) (cells : List ℕ) (r : Record) → length cells ≤ place_of h r → cells ≡ stored_one h cells r
+unfolding stored_one room_for
+no_room h cells r less = rw (le-ltb _ _ less, and-false (in_range h r)) refl
+
+pub no_cell : (h : Header) (cells : List ℕ) (r : Record) → in_range h r ≡ false → cells ≡ stored_one h cells r
+unfolding stored_one room_for
+no_cell h cells r e = rw e refl

@@ -1,4 +1,4 @@
--- The loop over the records: what it has found so far, and what each turn makes of that. Assumes nothing.
+-- The loop over the records: what it has found so far, and what each turn makes of that.
 use Prim.Native.Nat.{ℕ, ◌+◌, ◌≤◌, ◌<◌}
 use mathlib.Core.Path.{◌≡◌, refl, sym, ap, ◌∙◌}
 use mathlib.Core.Bool.{Bool, true, false, ◌||◌, or_assoc, or-false, cond}
@@ -14,14 +14,13 @@ use Rattle.wording.proofs.Lines.{rest_within}
 use Rattle.wording.proofs.Records.{Before, before_first, before_next, record_read_lem, record_long}
 use Rattle.wording.proofs.Steps.{records_on, step_end, step_more, step_bad}
 use Rattle.lines.specs.Read.{end_at}
-use Rattle.lines.specs.declared.WordRead.TheVariants.{Next, Other}
+use Rattle.std.specs.declared.option.Option.TheVariants.{Some, None}
+use Rattle.std.specs.declared.result.Result.TheVariants.{Ok, Err}
 use Rattle.numbers.proofs.Byte.{offset-drop}
 use Rattle.lines.proofs.Found.{end_found, end_other}
 use Rattle.records.specs.Read.{text_record, typed_record, record_read}
 use Rattle.records.specs.Stored.{place_of, room_for, stored_one, stored_all, stopped, found_on, found_at, found_is}
 use Rattle.records.specs.declared.Record as Read
-use Rattle.records.specs.declared.RecordRead.TheVariants.{Got, BadAt}
-use Rattle.records.specs.declared.RecordsRead.TheVariants.{End, BadAt as StopAt}
 
 -- one record more, and what is left gives what the whole gives
 found-more :
@@ -55,18 +54,18 @@ scan_start text start h cells within = record { within = within; before = before
 module _ {text : List ℕ} {start : ℕ} {h : Header} {cells₀ cells : List ℕ} {at : ℕ} {last : Record} {out barred : Bool}
     (s : ScanSoFar text start h cells₀ cells at last out barred) where
   -- at the end line
-  pub scan_end : (next : ℕ) → end_at text at ≡ Next next → found_is (End out barred next) cells ≡ found_at text start h cells₀
+  pub scan_end : (next : ℕ) → end_at text at ≡ Some next → found_is (Ok (record { outside = out; forbidden = barred; next = next })) cells ≡ found_at text start h cells₀
   unfolding found_is found_on any_record stored_all
   scan_end next e =
       let w = end_found text at next e in
       rw (← s.left, step_end last (drop at text) (drop next text) s.before w.behind, or-false out, or-false barred, offset-drop text next w.within) refl
 
   -- at a bad line
-  pub scan_bad : (line : ℕ) → end_at text at ≡ Other → record_read text (record_from last (drop at text)) ≡ BadAt line → found_is (StopAt line) cells ≡ found_at text start h cells₀
+  pub scan_bad : (line : ℕ) → end_at text at ≡ None → record_read text (record_from last (drop at text)) ≡ Err line → found_is (Err line) cells ≡ found_at text start h cells₀
   unfolding found_is found_on record_read
   scan_bad line e q = go (record_from last (drop at text)) refl q
     where
-      go : (x : Reading Record) → record_from last (drop at text) ≡ x → record_read text x ≡ BadAt line → stopped line ≡ found_at text start h cells₀
+      go : (x : Reading Record) → record_from last (drop at text) ≡ x → record_read text x ≡ Err line → stopped line ≡ found_at text start h cells₀
       go (bad_at l) w f =
           let n : offset text l ≡ line = cc in
           rw (← s.left, step_bad last (drop at text) l s.before (end_other text at e) w, n) refl
@@ -77,17 +76,18 @@ module _ {text : List ℕ} {start : ℕ} {h : Header} {cells₀ cells : List ℕ
     pub state : ScanSoFar text start h cells₀ (stored_one h cells told) next told (out || outside h told) (barred || forbidden h told)
     pub further : at < next
 
-  pub scan_more : (told : Read.Record) (next : ℕ) → end_at text at ≡ Other → record_read text (record_from last (drop at text)) ≡ Got told next → MoreRead (text_record told) next
+  pub scan_more : (told : Read.Record) (next : ℕ) → end_at text at ≡ None → record_read text (record_from last (drop at text)) ≡ Ok (told, next) → MoreRead (text_record told) next
   unfolding record_read typed_record text_record
   scan_more told next e q = go (record_from last (drop at text)) refl q
     where
-      go : (x : Reading Record) → record_from last (drop at text) ≡ x → record_read text x ≡ Got told next → MoreRead (text_record told) next
+      go : (x : Reading Record) → record_from last (drop at text) ≡ x → record_read text x ≡ Ok (told, next) → MoreRead (text_record told) next
       go (bad_at l) w f = never (cc)
       go (got r rest) w f =
           let one = record_read_lem last (drop at text) r rest s.before w in
           let place = rest_within text at (record_text r) rest s.within one.written in
-          let n : offset text rest ≡ next = cc in
-          let same : typed_record r ≡ told = cc in
+          let pair : ◌≡◌ {A = Read.Record × ℕ} (typed_record r, offset text rest) (told, next) = cc in
+          let same : typed_record r ≡ told = ap (λ p. p.0) pair in
+          let n : offset text rest ≡ next = ap (λ p. p.1) pair in
           let part : rest ≡ drop next text = rw n at place.part in
           let inside : next ≤ length text = rw n at place.fits in
           let far : next ≡ at + length (record_text r) = rw n at place.next in

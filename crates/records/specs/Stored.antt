@@ -1,13 +1,14 @@
 -- What a loop over the records finds and leaves.
 use Rattle.std.specs.Prelude.{ℕ, ◌≡◌, Bool, false, ◌&&◌, ◌||◌, cond, List, [], ◌∷◌, ltb, length, get_or, set, drop, replicate}
+use Rattle.std.specs.declared.result.Result.{Result}
+use Rattle.std.specs.declared.result.Result.TheVariants.{Ok, Err}
 use Rattle.rights.specs.declared.Header.{Header}
 use Rattle.rights.specs.Cell.{union}
 use Rattle.rights.specs.Register.{place}
 use Rattle.wording.specs.Lines.{Reading, got, bad_at, offset}
 use Rattle.wording.specs.Records.{Record, first, records_from}
 use Rattle.wording.specs.RegisterReader.{any_record, in_range, outside, forbidden}
-use Rattle.records.specs.declared.RecordsRead.{RecordsRead}
-use Rattle.records.specs.declared.RecordsRead.TheVariants.{End, BadAt}
+use Rattle.records.specs.declared.RecordsEnd.{RecordsEnd}
 
 -- the byte of a record's cell
 unfoldable pub place_of : Header → Record → ℕ
@@ -43,14 +44,14 @@ unfoldable pub found_at : List ℕ → ℕ → Header → List ℕ → Found
 found_at text at h cells = found_on text h false false cells (records_from (length (drop at text)) first (drop at text))
 
 -- what an answer and the buffer say
-unfoldable pub found_is : RecordsRead → List ℕ → Found
-found_is (End out barred next) cells = found out barred cells next
-found_is (BadAt line) cells = stopped line
+unfoldable pub found_is : Result RecordsEnd ℕ → List ℕ → Found
+found_is (Ok end) cells = found end.outside end.forbidden cells end.next
+found_is (Err line) cells = stopped line
 
 -- the answer that says what was found
-unfoldable pub answer_of : Found → RecordsRead
-answer_of (found out barred cells next) = End out barred next
-answer_of (stopped line) = BadAt line
+unfoldable pub answer_of : Found → Result RecordsEnd ℕ
+answer_of (found out barred cells next) = Ok (record { outside = out; forbidden = barred; next = next })
+answer_of (stopped line) = Err line
 
 -- the buffer of this size that what was found leaves; for a bad line 01's 'Refused: the whole buffer zero'
 unfoldable pub cells_of : ℕ → Found → List ℕ
@@ -62,6 +63,6 @@ unfoldable pub records_at : List ℕ → ℕ → Header → ℕ → Found
 records_at text at h size = found_at text at h (replicate size 0)
 
 -- the answer and the buffer are those of what is found
-pub record RecordsTold (f : Found) (size : ℕ) (r : RecordsRead) (cells : List ℕ) : Type 0 where
+pub record RecordsTold (f : Found) (size : ℕ) (r : Result RecordsEnd ℕ) (cells : List ℕ) : Type 0 where
   pub answer : r ≡ answer_of f
   pub buffer : cells ≡ cells_of size f

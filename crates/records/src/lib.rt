@@ -1,19 +1,17 @@
 // The records of a register's text, one after the other up to the end line, each added to the cells as it is read.
 #![tactic(auto)]
 
-ghost use Rattle.std.specs.Prelude.{◌≡◌, ◌||◌, ◌≤◌, length, drop};
-ghost use Rattle.wording.specs.Word.{to_line, perm_line};
-ghost use Rattle.wording.specs.Line.{line_of};
-ghost use Rattle.wording.specs.Records.{first, to_may, perm_may, with_perm, with_to};
-ghost use Rattle.wording.specs.RegisterReader.{outside, forbidden};
-ghost use Rattle.records.specs.Read.{text_record, record_read, record_at};
-ghost use Rattle.records.specs.Stored.{place_of, room_for, stored_one, found_at, found_is, records_at, RecordsTold};
+ghost use Rattle.std.specs.Prelude.{◌≡◌, ◌≤◌, length};
+ghost use Rattle.wording.specs.Records.{first, by_may, to_may, perm_may};
+ghost use Rattle.wording.specs.RegisterReader.{in_range};
+ghost use Rattle.records.specs.Read.{text_record, record_at};
+ghost use Rattle.records.specs.Stored.{place_of, stored_one, found_at, found_is, records_at, RecordsTold};
 
-use lines::{LineKind, WordRead};
-use numbers::LineRead;
+use lines::LineKind;
 use rights::{Header, Office};
 
 // One record, as it was read: nothing of it is known to be in range.
+// Kept: a number as permission, since the one that stands in before the first record is above all four.
 #[derive(Clone, Copy)]
 pub struct Record {
     pub by: Office,
@@ -21,157 +19,96 @@ pub struct Record {
     pub perm: u8,
 }
 
-// A record and where the next line starts, or where the bad line starts.
+// All records up to the end line: whether one names an office that there is not, whether one is forbidden, and where the text goes
+// on behind the end line.
 #[derive(Clone, Copy)]
-pub enum RecordRead {
-    Got(Record, usize),
-    BadAt(usize),
+pub struct RecordsEnd {
+    pub outside: bool,
+    pub forbidden: bool,
+    pub next: usize,
 }
 
-// All records: whether one names an office that there is not, whether one is forbidden, and where it goes on behind the end
-// line; or where the bad line starts.
-#[derive(Clone, Copy)]
-pub enum RecordsRead {
-    End {
-        outside: bool,
-        forbidden: bool,
-        next: usize,
-    },
-    BadAt(usize),
+// Whether a record with this `by=` may come after the last one.
+#[tactic(auto, unfolding(wording::specs::Records::by_may, crate::specs::Read::text_record))]
+fn by_may(last: Record, by: Office) -> bool
+    ensures { result ≡ by_may (text_record last) by.0 }
+{
+    last.by <= by
 }
 
-// Whether a record with this `to=` may come after the last one.
+// Whether one with this `to=` may.
+#[tactic(auto, unfolding(wording::specs::Records::to_may, crate::specs::Read::text_record))]
 fn to_may(last: Record, by: Office, to: Office) -> bool
     ensures { result ≡ to_may (text_record last) by.0 to.0 }
 {
-    if last.by.0 < by.0 {
-        return true;
-    }
-    last.to.0 <= to.0
+    last.by < by || last.to <= to
 }
 
-// Whether a record with this `perm=` may: `none` may not, and none that was told before.
+// Whether one with this `perm=` may: `none` may not, and none that was told before.
+#[tactic(auto, unfolding(wording::specs::Records::perm_may, crate::specs::Read::text_record))]
 fn perm_may(last: Record, by: Office, to: Office, perm: u16) -> bool
     ensures { result ≡ perm_may (text_record last) by.0 to.0 perm }
 {
-    if perm < 1 {
-        return false;
-    }
-    if last.by.0 < by.0 {
-        return true;
-    }
-    if last.to.0 < to.0 {
-        return true;
-    }
-    perm < last.perm as u16
+    1 <= perm && (last.by < by || last.to < to || perm < last.perm as u16)
 }
 
-// The third line of a record.
-fn with_perm(text: &[u8], at: usize, last: Record, by: Office, to: Office) -> RecordRead
-    requires { at ≤ length text.now }
-    ensures { result ≡ record_read text.now (with_perm (text_record last) by.0 to.0 (drop at text.now) (line_of perm_line (drop at text.now))) }
-{
-    let LineRead::Value(perm, next) = lines::line(text, at, LineKind::Perm) else {
-        return RecordRead::BadAt(at);
-    };
-    if perm_may(last, by, to, perm) {
-        return RecordRead::Got(
-            Record {
-                by: by,
-                to: to,
-                perm: perm as u8,
-            },
-            next,
-        );
-    }
-    RecordRead::BadAt(at)
-}
-
-// The second line.
-fn with_to(text: &[u8], at: usize, last: Record, by: Office) -> RecordRead
-    requires { at ≤ length text.now }
-    ensures { result ≡ record_read text.now (with_to (text_record last) by.0 (drop at text.now) (line_of to_line (drop at text.now))) }
-{
-    let LineRead::Value(to, next) = lines::line(text, at, LineKind::To) else {
-        return RecordRead::BadAt(at);
-    };
-    if to_may(last, by, Office(to)) {
-        return with_perm(text, next, last, by, Office(to));
-    }
-    RecordRead::BadAt(at)
-}
-
-// The first line, and with it a record that comes after the last one.
-fn read_record(text: &[u8], at: usize, last: Record) -> RecordRead
+// The record at the byte `at`, which comes after the last one, and where the next line starts; or where the bad line starts.
+fn read_record(text: &[u8], at: usize, last: Record) -> Result<(Record, usize), usize>
     requires { at ≤ length text.now }
     ensures { result ≡ record_at text.now at last }
 {
-    let LineRead::Value(by, next) = lines::line(text, at, LineKind::By) else {
-        return RecordRead::BadAt(at);
+    let Some((by, to_at)) = lines::line(text, at, LineKind::By) else {
+        return Err(at);
     };
-    if last.by.0 <= by {
-        return with_to(text, next, last, Office(by));
+    let by = Office(by);
+    if !by_may(last, by) {
+        return Err(at);
     }
-    RecordRead::BadAt(at)
+    let Some((to, perm_at)) = lines::line(text, to_at, LineKind::To) else {
+        return Err(to_at);
+    };
+    let to = Office(to);
+    if !to_may(last, by, to) {
+        return Err(to_at);
+    }
+    let Some((perm, next)) = lines::line(text, perm_at, LineKind::Perm) else {
+        return Err(perm_at);
+    };
+    if !perm_may(last, by, to, perm) {
+        return Err(perm_at);
+    }
+    let perm = perm as u8;
+    Ok((Record { by, to, perm }, next))
 }
 
-// Whether a record so far or this one names an office that there is not.
-fn or_outside(before: bool, header: Header, told: Record) -> bool
-    ensures { result ≡ (before || outside header (text_record told)) }
+// Whether the record names two offices that there are.
+#[tactic(auto, unfolding(crate::specs::Read::text_record))]
+fn in_range(header: Header, told: Record) -> bool
+    ensures { result ≡ in_range header (text_record told) }
 {
-    if before {
-        return true;
-    }
-    if told.by.0 < header.n {
-        return header.n <= told.to.0;
-    }
-    true
-}
-
-// Whether a record so far or this one is forbidden, whoever holds what.
-fn or_forbidden(before: bool, header: Header, told: Record) -> bool
-    ensures { result ≡ (before || forbidden header (text_record told)) }
-{
-    if before {
-        return true;
-    }
-    if told.by.0 == told.to.0 {
-        return true;
-    }
-    told.to.0 == header.soa.0
+    told.by.0 < header.n && told.to.0 < header.n
 }
 
 // The byte of the record's cell.
+#[tactic(auto, unfolding(crate::specs::Read::text_record, crate::specs::Stored::place_of))]
 fn place(header: Header, told: Record) -> usize
     ensures { result ≡ place_of header (text_record told) }
 {
     told.by.0 as usize * header.n as usize + told.to.0 as usize
 }
 
-// Whether the record has a cell, and a buffer of this size has room for it.
-fn has_cell(size: usize, header: Header, told: Record) -> bool
-    ensures { result ≡ room_for header size (text_record told) }
-{
-    if header.n <= told.by.0 {
-        return false;
-    }
-    if header.n <= told.to.0 {
-        return false;
-    }
-    place(header, told) < size
-}
-
-// The record added to the cells, where it has one.
+// The record added to the cells, where it has a cell and the buffer has room for that.
 fn store(cells: &mut [u8], header: Header, told: Record)
     ensures { cells.new ≡ stored_one header cells.old (text_record told) }
 {
-    if has_cell(cells.len(), header, told) {
-        let at = place(header, told);
+    let at = place(header, told);
+    if in_range(header, told) && at < cells.len() {
         cells[at] = cells::union(cells[at], told.perm);
     }
 }
 
 // What stands in for the record before the first one: every record comes after it.
+#[tactic(auto, unfolding(wording::specs::Records::first, crate::specs::Read::text_record))]
 fn before_all() -> Record
     ensures { text_record result ≡ first }
 {
@@ -183,7 +120,7 @@ fn before_all() -> Record
 }
 
 // The records up to the end line, each added to the cells.
-fn scan(text: &[u8], start: usize, header: Header, cells: &mut [u8]) -> RecordsRead
+fn scan(text: &[u8], start: usize, header: Header, cells: &mut [u8]) -> Result<RecordsEnd, usize>
     requires { start ≤ length text.now }
     ensures { found_is result cells.new ≡ found_at text.now start header cells.old }
 {
@@ -192,39 +129,38 @@ fn scan(text: &[u8], start: usize, header: Header, cells: &mut [u8]) -> RecordsR
     let mut outside = false;
     let mut forbidden = false;
     loop {
-        if let WordRead::Next(next) = lines::end_line(text, at) {
-            return RecordsRead::End {
-                outside: outside,
-                forbidden: forbidden,
-                next: next,
-            };
+        if let Some(next) = lines::end_line(text, at) {
+            return Ok(RecordsEnd {
+                outside,
+                forbidden,
+                next,
+            });
         }
-        match read_record(text, at, last) {
-            RecordRead::BadAt(line) => {
-                return RecordsRead::BadAt(line);
-            }
-            RecordRead::Got(told, next) => {
-                store(cells, header, told);
-                outside = or_outside(outside, header, told);
-                forbidden = or_forbidden(forbidden, header, told);
-                last = told;
-                at = next;
-            }
-        }
+        let (told, next) = read_record(text, at, last)?;
+        store(cells, header, told);
+        outside |= !in_range(header, told);
+        forbidden |= registers::barred(header, told.by, told.to);
+        last = told;
+        at = next;
     }
 }
 
-// The records of the text from the byte `start` on, up to the end line, and the buffer with these records alone. A record that
-// has no cell is left out: the reader of the register refuses it. A bad line leaves the buffer zero.
-pub fn read_records(text: &[u8], start: usize, header: Header, cells: &mut [u8]) -> RecordsRead
+// The records of the text from the byte `start` on, up to the end line, and the buffer with these records alone; or where the bad
+// line starts, which leaves the buffer zero. A record that has no cell is left out: the reader of the register refuses it.
+pub fn read_records(
+    text: &[u8],
+    start: usize,
+    header: Header,
+    cells: &mut [u8],
+) -> Result<RecordsEnd, usize>
     ensures { RecordsTold (records_at text.now start header (length cells.old)) (length cells.old) result cells.new }
 {
     buffers::clear(cells);
     if text.len() < start {
-        return RecordsRead::BadAt(text.len());
+        return Err(text.len());
     }
     let read = scan(text, start, header, cells);
-    if let RecordsRead::BadAt(_) = read {
+    if read.is_err() {
         buffers::clear(cells);
     }
     read

@@ -1,4 +1,4 @@
--- The checks 1, 2, 6, 7 and 3 in order. Assumes nothing.
+-- The checks 1, 2, 6, 7 and 3 in order.
 use Prim.Native.Nat.{ℕ, ◌*◌, ◌≤◌, ◌<◌}
 use mathlib.Core.Path.{◌≡◌, refl}
 use mathlib.Core.Bool.{Bool, true, false}

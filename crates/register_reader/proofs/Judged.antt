@@ -1,4 +1,4 @@
--- The register reader's outcome, from what it read and found. Assumes nothing.
+-- The register reader's outcome, from what it read and found.
 use Prim.Native.Nat.{ℕ, ◌*◌, ◌-◌, ◌≤◌}
 use mathlib.Core.Path.{◌≡◌, refl, sym, ap, ◌∙◌}
 use mathlib.Core.Bool.{Bool, true, false}
@@ -8,6 +8,11 @@ use lib.Dec.{leb}
 use lib.ListN.{length, drop, replicate, length-replicate}
 use borrow.Author.Tests.{leb-true, eq-eqb, ne_eqb}
 use Rattle.rights.specs.declared.Header.{Header}
+use Rattle.std.specs.declared.result.Result.{Result}
+use Rattle.std.specs.declared.result.Result.TheVariants.{Ok, Err}
+use Rattle.rights.specs.declared.Refusal.{Refusal}
+use Rattle.rights.specs.Refusal.{number}
+use Rattle.theory.proofs.Refusal.{number-nonzero}
 use Rattle.rights.specs.Sound.{first_of, unless}
 use Rattle.wording.specs.Lines.{Reading, got, bad_at, offset, lines_of, lines_text, header_lines, header_of}
 use Rattle.wording.specs.Records.{Record, first, records_from}
@@ -19,11 +24,10 @@ use Rattle.wording.proofs.Records.{before_first, records_read}
 use Rattle.wording.proofs.Filled.{length-filled}
 use Rattle.wording.proofs.Accepted.{accepted}
 use Rattle.records.specs.Stored.{stored_one, stored_all, found_on, found_at, answer_of, cells_of, records_at, RecordsTold}
-use Rattle.records.specs.declared.RecordsRead.TheVariants.{End, BadAt as StopAt}
+use Rattle.records.specs.declared.RecordsEnd.{RecordsEnd}
 use Rattle.records.proofs.SoFar.{stored-length}
 use Rattle.records.proofs.Granted.{stored-filled, register_part}
 use Rattle.register_reader.specs.Told.{header_read, header_in, register_answer, register_not, RegisterTold, buffer_refusal, behind_header_at}
-use Rattle.register_reader.specs.declared.HeaderRead.TheVariants.{Got, BadAt}
 use Rattle.register_reader.specs.declared.RegisterRead.{RegisterRead}
 
 all_stored_length : (h : Header) (cells : List ℕ) (rs : List Record) → length (stored_all h cells rs) ≡ length cells
@@ -59,81 +63,79 @@ module _ (text buffer : List ℕ) (h : Header) (at : ℕ) where
 
   -- a bad line
   pub judged-bad :
-      {line : ℕ} {cells : List ℕ} {r : RegisterRead} → RecordsTold (records_at text at h (length buffer)) (length buffer) (StopAt line) cells →
-      r ≡ register_not 13 line (length text) → RegisterTold (behind_header_at text buffer h at) r cells
+      {line : ℕ} {cells : List ℕ} → RecordsTold (records_at text at h (length buffer)) (length buffer) (Err line) cells →
+      RegisterTold (behind_header_at text buffer h at) (register_not 13 line (length text)) (replicate (length cells) 0)
   unfolding read records_at found_at found_on answer_of cells_of behind_header_at with_header judged register_refused register_answer register_not
-  judged-bad {line} {cells} {r} told e = go read refl
+  judged-bad {line} {cells} told = go read refl
     where
-      go : (x : Reading (List Record)) → read ≡ x → RegisterTold (behind_header_at text buffer h at) r cells
+      go : (x : Reading (List Record)) → read ≡ x → RegisterTold (behind_header_at text buffer h at) (register_not 13 line (length text)) (replicate (length cells) 0)
       go (bad_at l) q =
-          let answer : StopAt line ≡ StopAt (offset text l) = rw q at told.answer in
+          let answer : ◌≡◌ {A = Result RecordsEnd ℕ} (Err line) (Err (offset text l)) = rw q at told.answer in
           let zero : cells ≡ replicate (length buffer) 0 = rw q at told.buffer in
           let same : line ≡ offset text l = cc in
-          rw q record { answer = e ∙ (rw same refl); buffer = zero }
+          rw q record { answer = rw same refl; buffer = ap (λ n. replicate n 0) (ap length zero ∙ length-replicate (length buffer) 0) }
       go (got rs rest) q =
-          let answer : StopAt line ≡ End (any_record (outside h) rs) (any_record (forbidden h) rs) (offset text rest) = rw q at told.answer in
+          let answer : ◌≡◌ {A = Result RecordsEnd ℕ} (Err line) (Ok (record { outside = any_record (outside h) rs; forbidden = any_record (forbidden h) rs; next = offset text rest })) =
+          rw q at told.answer
+          in
           never (cc)
 
   -- all records, with what is found of them
-  record AllRead (out barred : Bool) (next : ℕ) (cells : List ℕ) : Type 0 where
+  record AllRead (found : RecordsEnd) (cells : List ℕ) : Type 0 where
     records : List Record
     rest : List ℕ
     was : read ≡ got records rest
-    out_is : out ≡ any_record (outside h) records
-    barred_is : barred ≡ any_record (forbidden h) records
-    next_is : next ≡ offset text rest
-    cells_are : cells ≡ stored_all h (replicate (length buffer) 0) records
-    refusal_is : content_refusal (record { header = h; records = records }) (length buffer) ≡ buffer_refusal h cells out barred
+    next_is : found.next ≡ offset text rest
+    long : length cells ≡ length buffer
+    refusal_is : content_refusal (record { header = h; records = records }) (length buffer) ≡ buffer_refusal h cells found.outside found.forbidden
     done_is : h.n * h.n ≤ length buffer → cells ≡ filled h records ++ replicate (length buffer - length (filled h records)) 0
 
-  all_read : {out barred : Bool} {next : ℕ} {cells : List ℕ} → RecordsTold (records_at text at h (length buffer)) (length buffer) (End out barred next) cells → AllRead out barred next cells
+  all_read : {found : RecordsEnd} {cells : List ℕ} → RecordsTold (records_at text at h (length buffer)) (length buffer) (Ok found) cells → AllRead found cells
   unfolding read records_at found_at found_on answer_of cells_of
-  all_read {out} {barred} {next} {cells} told = go read refl
+  all_read {found} {cells} told = go read refl
     where
-      go : (x : Reading (List Record)) → read ≡ x → AllRead out barred next cells
+      go : (x : Reading (List Record)) → read ≡ x → AllRead found cells
       go (bad_at l) q =
-          let answer : End out barred next ≡ StopAt (offset text l) = rw q at told.answer in
+          let answer : ◌≡◌ {A = Result RecordsEnd ℕ} (Ok found) (Err (offset text l)) = rw q at told.answer in
           never (cc)
       go (got rs rest) q =
-          let answer : End out barred next ≡ End (any_record (outside h) rs) (any_record (forbidden h) rs) (offset text rest) = rw q at told.answer in
+          let answer : ◌≡◌ {A = Result RecordsEnd ℕ} (Ok found) (Ok (record { outside = any_record (outside h) rs; forbidden = any_record (forbidden h) rs; next = offset text rest })) =
+          rw q at told.answer
+          in
+          let is : found ≡ record { outside = any_record (outside h) rs; forbidden = any_record (forbidden h) rs; next = offset text rest } = cc in
           let all : cells ≡ stored_all h (replicate (length buffer) 0) rs = rw q at told.buffer in
           let ascends = (records_read (length (drop at text)) first (drop at text) rs rest before_first q).ascending in
-          let o : out ≡ any_record (outside h) rs = cc in
-          let b : barred ≡ any_record (forbidden h) rs = cc in
           record {
             records = rs;
             rest = rest;
             was = q;
-            out_is = o;
-            barred_is = b;
-            next_is = cc;
-            cells_are = all;
-            refusal_is = content_refusal_lem h rs (length buffer) ascends ∙ (rw (all, o, b) refl);
+            next_is = ap (λ f. f.next) is;
+            long = ap length all ∙ all_stored_length h (replicate (length buffer) 0) rs ∙ length-replicate (length buffer) 0;
+            refusal_is = content_refusal_lem h rs (length buffer) ascends ∙ (rw (all, is) refl);
             done_is = λ room. all ∙ stored-filled h (length buffer) room ascends ∙ (rw (length-filled h rs) refl);
           }
 
   -- nothing is refused
   pub judged-done :
-      {out barred : Bool} {next : ℕ} {cells : List ℕ} → RecordsTold (records_at text at h (length buffer)) (length buffer) (End out barred next) cells →
-      buffer_refusal h cells out barred ≡ 0 → RegisterTold (behind_header_at text buffer h at) (done h next) cells
+      {found : RecordsEnd} {cells : List ℕ} → RecordsTold (records_at text at h (length buffer)) (length buffer) (Ok found) cells →
+      0 ≡ buffer_refusal h cells found.outside found.forbidden → RegisterTold (behind_header_at text buffer h at) (done h found.next) cells
   unfolding read behind_header_at with_header judged register_done register_answer
   judged-done told zero =
       let a = all_read told in
-      let none : content_refusal (record { header = h; records = a.records }) (length buffer) ≡ 0 = a.refusal_is ∙ zero in
+      let none : content_refusal (record { header = h; records = a.records }) (length buffer) ≡ 0 = a.refusal_is ∙ sym zero in
       rw (a.was, eq-eqb _ 0 none)
       record { answer = ap (done h) a.next_is; buffer = a.done_is (accepted (record { header = h; records = a.records }) (length buffer) none).room_ok }
 
   -- something is
   pub judged-not :
-      {out barred : Bool} {next number : ℕ} {cells after : List ℕ} {r : RegisterRead} →
-      RecordsTold (records_at text at h (length buffer)) (length buffer) (End out barred next) cells →
-      number ≡ buffer_refusal h cells out barred → (number ≡ 0 → ⊥) → after ≡ replicate (length cells) 0 → length cells ≡ length buffer →
-      r ≡ register_not number 0 (length text) → RegisterTold (behind_header_at text buffer h at) r after
+      {found : RecordsEnd} {cells : List ℕ} (r : Refusal) → RecordsTold (records_at text at h (length buffer)) (length buffer) (Ok found) cells →
+      number r ≡ buffer_refusal h cells found.outside found.forbidden →
+      RegisterTold (behind_header_at text buffer h at) (register_not (number r) 0 (length text)) (replicate (length cells) 0)
   unfolding read behind_header_at with_header judged register_refused register_answer register_not
-  judged-not {number = number} told e some gone long is =
+  judged-not r told e =
       let a = all_read told in
-      let some_is : content_refusal (record { header = h; records = a.records }) (length buffer) ≡ number = a.refusal_is ∙ sym e in
-      rw (a.was, some_is, ne_eqb number 0 some) record { answer = is; buffer = gone ∙ ap (λ n. replicate n 0) long }
+      let some_is : content_refusal (record { header = h; records = a.records }) (length buffer) ≡ number r = a.refusal_is ∙ sym e in
+      rw (a.was, some_is, ne_eqb (number r) 0 (number-nonzero r)) record { answer = refl; buffer = ap (λ n. replicate n 0) a.long }
 
 module _ (text buffer : List ℕ) where
   -- a header, and what is read behind it
@@ -141,25 +143,25 @@ module _ (text buffer : List ℕ) where
     pub within : next ≤ length text
     pub behind : register_read text buffer ≡ behind_header_at text buffer h next
 
-  pub header-found : {h : Header} {next : ℕ} → header_in text ≡ Got h next → HeaderFound h next
+  pub header-found : {h : Header} {next : ℕ} → header_in text ≡ Ok (h, next) → HeaderFound h next
   unfolding header_in header_read register_read content_of behind_header behind_header_at offset
   header-found {h} {next} e = go (lines_of header_lines text) refl e
     where
-      go : (x : Reading (List ℕ)) → lines_of header_lines text ≡ x → header_read text x ≡ Got h next → HeaderFound h next
+      go : (x : Reading (List ℕ)) → lines_of header_lines text ≡ x → header_read text x ≡ Ok (h, next) → HeaderFound h next
       go (bad_at line) q f = never (cc)
       go (got vs rest) q f =
-          let place : offset text rest ≡ next = cc in
-          let same : header_of vs ≡ h = cc in
+          let pair : ◌≡◌ {A = Header × ℕ} (header_of vs, offset text rest) (h, next) = cc in
+          let same : header_of vs ≡ h = ap (λ p. p.0) pair in
+          let place : offset text rest ≡ next = ap (λ p. p.1) pair in
           let part : rest ≡ drop next text = rw place at (rest_by_offset (lines_text header_lines vs) rest text (lines_read header_lines text vs rest q).written) in
           record { within = rw (← place) (omega arith); behind = rw (q, same, part) refl }
 
   -- no header
-  pub header-missing :
-      {line : ℕ} {after : List ℕ} {r : RegisterRead} → header_in text ≡ BadAt line → after ≡ replicate (length buffer) 0 → r ≡ register_not 13 line (length text) →
-      RegisterTold (register_read text buffer) r after
+  pub header-missing : {line : ℕ} → header_in text ≡ Err line → RegisterTold (register_read text buffer) (register_not 13 line (length text)) (replicate (length buffer) 0)
   unfolding header_in header_read register_read content_of behind_header judged register_refused register_answer register_not
-  header-missing {line} {after} {r} e gone is = go (lines_of header_lines text) refl e
+  header-missing {line} e = go (lines_of header_lines text) refl e
     where
-      go : (x : Reading (List ℕ)) → lines_of header_lines text ≡ x → header_read text x ≡ BadAt line → RegisterTold (register_read text buffer) r after
-      go (bad_at l) q f = let same : offset text l ≡ line = cc in rw (q, same) record { answer = is; buffer = gone }
+      go : (x : Reading (List ℕ)) → lines_of header_lines text ≡ x → header_read text x ≡ Err line →
+          RegisterTold (register_read text buffer) (register_not 13 line (length text)) (replicate (length buffer) 0)
+      go (bad_at l) q f = let same : offset text l ≡ line = cc in rw (q, same) record { answer = refl; buffer = refl }
       go (got vs rest) q f = never (cc)

@@ -2,4 +2,5 @@
 pub mod Header
 pub mod Checks
 pub mod Judged
+pub mod Taken
 pub mod Unique

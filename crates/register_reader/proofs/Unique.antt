@@ -1,4 +1,4 @@
--- No second outcome: at most one answer and one buffer satisfy the contract, whatever the arguments. Assumes nothing.
+-- No second outcome: at most one answer and one buffer satisfy the contract, whatever the arguments.
 -- `Post` is the contract as the check reads it: of the lifetimes, the arguments, the result and the arguments at exit, of which
 -- the buffer is the second.
 use mathlib.Core.Path.{◌≡◌, sym, ◌∙◌}

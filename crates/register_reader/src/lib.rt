@@ -1,16 +1,18 @@
 // The reader of a register: the header by value, the cells in a lent buffer, and where in the text the rest starts.
 #![tactic(auto)]
 
-ghost use Rattle.std.specs.Prelude.{◌≡◌, ◌≤◌, length};
+ghost use Rattle.std.specs.Prelude.{◌≡◌};
+ghost use Rattle.rights.specs.declared.Refusal.TheVariants.{BadText};
+ghost use Rattle.rights.specs.Refusal.{answer_of};
 ghost use Rattle.wording.specs.RegisterReader.{register_read};
-ghost use Rattle.register_reader.specs.Told.{header_in, register_not, buffer_refusal, RegisterTold, behind_header_at};
+ghost use Rattle.register_reader.specs.Told.{header_in, buffer_refusal, RegisterTold, read_answer, cells_left};
 
 use lines::LineKind;
-use numbers::LineRead;
-use records::RecordsRead;
-use rights::{Header, Layer, Office};
+use records::RecordsEnd;
+use rights::{Header, Layer, Office, Refusal};
 
 // What the register reader gives: 0 or the refusal, where the bad line starts, the header, and where the rest starts.
+// Kept: a number for the answer and a header beside it, since C reads this struct.
 #[repr(C)]
 #[derive(Clone, Copy)]
 pub struct RegisterRead {
@@ -20,108 +22,102 @@ pub struct RegisterRead {
     pub next: usize,
 }
 
-// The header and where the records start, or where the bad line starts.
+// Why there is no register: the refusal, and where the bad line starts, 0 if none is bad.
 #[derive(Clone, Copy)]
-pub enum HeaderRead {
-    Got(Header, usize),
-    BadAt(usize),
+struct Refused {
+    refusal: Refusal,
+    at: usize,
 }
 
-// The three lines of a header.
-fn read_header(text: &[u8]) -> HeaderRead
-    ensures { result ≡ header_in text.now }
-{
-    let LineRead::Value(n, soa_at) = lines::line(text, 0, LineKind::N) else {
-        return HeaderRead::BadAt(0);
-    };
-    let LineRead::Value(soa, layer_at) = lines::line(text, soa_at, LineKind::Soa) else {
-        return HeaderRead::BadAt(soa_at);
-    };
-    let LineRead::Value(layer, next) = lines::line(text, layer_at, LineKind::Layer) else {
-        return HeaderRead::BadAt(layer_at);
-    };
-    HeaderRead::Got(
-        Header {
-            n: n,
-            soa: Office(soa),
-            layer: Layer(layer),
-        },
-        next,
-    )
-}
+impl From<Refusal> for Refused {
+    ghost from_gives = { λ refusal refused. refused ≡ record { refusal = refusal; at = 0 } };
 
-// No register: a number of refusal, and where the bad line starts.
-fn no_register(number: u8, at: usize, end: usize) -> RegisterRead
-    ensures { result ≡ register_not number at end }
-{
-    RegisterRead {
-        answer: number,
-        at: at,
-        header: Header {
-            n: 0,
-            soa: Office(0),
-            layer: Layer(0),
-        },
-        next: end,
+    // A refusal for which no line is bad.
+    fn from(refusal: Refusal) -> Refused {
+        Refused { refusal, at: 0 }
     }
 }
 
-// Refusals 1, 2, 6, 7 and 3, in this order, of a buffer with the records added and what was found of them; 0 is none.
-fn refusal(cells: &[u8], header: Header, outside: bool, forbidden: bool) -> u8
-    ensures { result ≡ buffer_refusal header cells.now outside forbidden }
+// The refusal for a bad line.
+fn bad_line(at: usize) -> Refused
+    ensures { (result.refusal ≡ BadText) × (result.at ≡ at) }
+{
+    Refused {
+        refusal: Refusal::BadText,
+        at,
+    }
+}
+
+// The three lines of a header, and where the records start; or where the bad line starts.
+fn read_header(text: &[u8]) -> Result<(Header, usize), usize>
+    ensures { result ≡ header_in text.now }
+{
+    let Some((n, soa_at)) = lines::line(text, 0, LineKind::N) else {
+        return Err(0);
+    };
+    let Some((soa, layer_at)) = lines::line(text, soa_at, LineKind::Soa) else {
+        return Err(soa_at);
+    };
+    let Some((layer, next)) = lines::line(text, layer_at, LineKind::Layer) else {
+        return Err(layer_at);
+    };
+    let header = Header {
+        n,
+        soa: Office(soa),
+        layer: Layer(layer),
+    };
+    Ok((header, next))
+}
+
+// Refusals 1, 2, 6, 7 and 3, in this order, of a buffer with the records added and what was found of them.
+fn judge(cells: &[u8], header: Header, found: RecordsEnd) -> Result<(), Refusal>
+    ensures { answer_of result ≡ buffer_refusal header cells.now found.outside found.forbidden }
 {
     if !registers::headed(header) {
-        return 1;
+        return Err(Refusal::NoHeader);
     }
     let size = header.n as usize * header.n as usize;
     if cells.len() < size {
-        return 2;
+        return Err(Refusal::WrongLength);
     }
-    if outside {
-        return 6;
+    if found.outside {
+        return Err(Refusal::NoOffice);
     }
-    if forbidden {
-        return 7;
+    if found.forbidden {
+        return Err(Refusal::Barred);
     }
-    sound::register_refusal(&cells[0..size], header)
+    sound::register_refusal(&cells[..size], header)
 }
 
-// The records behind a header, the checks of them, and the end.
-fn behind_header(text: &[u8], at: usize, header: Header, cells: &mut [u8]) -> RegisterRead
-    requires { at ≤ length text.now }
-    ensures { RegisterTold (behind_header_at text.now cells.old header at) result cells.new }
+// The register, its bytes in the lent buffer, and where the rest starts. Refused, the buffer may hold any bytes.
+fn read(text: &[u8], cells: &mut [u8]) -> Result<(Header, usize), Refused>
+    ensures { RegisterTold (register_read text.now cells.old) (read_answer text.now result) (cells_left result cells.new) }
 {
-    match records::read_records(text, at, header, cells) {
-        RecordsRead::BadAt(line) => no_register(13, line, text.len()),
-        RecordsRead::End {
-            outside,
-            forbidden,
-            next,
-        } => {
-            let number = refusal(cells, header, outside, forbidden);
-            if number == 0 {
-                return RegisterRead {
-                    answer: 0,
-                    at: 0,
-                    header: header,
-                    next: next,
-                };
-            }
-            buffers::clear(cells);
-            no_register(number, 0, text.len())
-        }
-    }
+    let (header, start) = read_header(text).map_err(bad_line)?;
+    let found = records::read_records(text, start, header, cells).map_err(bad_line)?;
+    judge(cells, header, found)?;
+    Ok((header, found.next))
 }
 
 // The register, its bytes in the lent buffer and zero behind them; refused, the whole buffer zero.
 pub fn read_register(text: &[u8], cells: &mut [u8]) -> RegisterRead
     ensures { RegisterTold (register_read text.now cells.old) result cells.new }
 {
-    match read_header(text) {
-        HeaderRead::BadAt(line) => {
+    match read(text, cells) {
+        Ok((header, next)) => RegisterRead {
+            answer: 0,
+            at: 0,
+            header,
+            next,
+        },
+        Err(Refused { refusal, at }) => {
             buffers::clear(cells);
-            no_register(13, line, text.len())
+            RegisterRead {
+                answer: refusal.number(),
+                at,
+                header: Header::default(),
+                next: text.len(),
+            }
         }
-        HeaderRead::Got(header, next) => behind_header(text, next, header, cells),
     }
 }

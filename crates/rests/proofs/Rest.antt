@@ -1,10 +1,9 @@
--- The rest that a reader hands back is the caller's own text. Assumes nothing.
-use Prim.Native.Nat.{ℕ, ◌-◌, ◌≤◌, ◌<◌}
+-- The rest that a reader hands back is the caller's own text.
+use Prim.Native.Nat.{ℕ}
 use mathlib.Core.Path.{◌≡◌, sym, ap, ◌∙◌}
 use mathlib.Core.List.{List}
 use native.Mathlib.Omega.{arith}
-use lib.ListN.{length, take, drop, length-drop, drop_of_length-le}
-use lib.Seq.{take_all, take-nil, drop-length}
+use lib.ListN.{drop}
 use Rattle.wording.specs.RegisterReader.{register_read}
 use Rattle.wording.specs.CommandReader.{command_read}
 use Rattle.wording.proofs.RegisterText as register-text
@@ -14,12 +13,6 @@ use Rattle.register_reader.specs.Told.{register_answer, RegisterTold}
 use Rattle.rests.specs.Rest.{RestTold, RegisterRest, CommandRest}
 use Rattle.command_reader.specs.declared.CommandRead.{CommandRead}
 use Rattle.register_reader.specs.declared.RegisterRead.{RegisterRead}
-
-pub part_there : (text : List ℕ) (next : ℕ) → next ≤ length text → take (length text - next) (drop next text) ≡ drop next text
-part_there text next h = take_all (length text - next) (drop next text) (rw length-drop (omega arith))
-
-pub part_past : (text : List ℕ) (next : ℕ) → length text < next → take (length text - length text) (drop (length text) text) ≡ drop next text
-part_past text next h = rw (drop-length, drop_of_length-le text {i = next} (omega arith)) (take-nil (length text - length text))
 
 module _ {start there : ℕ × ℕ} {text rest : List ℕ} where
   pub command_rest_told : (read : CommandRead) → read ≡ command_told text → RestTold start text read.next there rest → CommandRest start (command_read text) there rest

@@ -1,2 +1,3 @@
 pub mod NoSecond
+pub mod Unique
 pub mod Worked

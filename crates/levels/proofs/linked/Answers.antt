@@ -1,29 +1,21 @@
--- `levels::linked` meets its contract. The loop's invariant: no grantor passed has a link that counts. Assumes nothing.
-use Prim.Native.Nat.{◌<◌}
-use native.Mathlib.Omega.{arith}
-use mathlib.Core.Path.{◌≡◌, refl, sym, ◌∙◌}
-use Rattle.rights.specs.Below.{any_below}
-use Rattle.rights.specs.Level.{linked}
-use Rattle.theory.proofs.Below.{any_from}
-use Rattle.levels.proofs.Loops.{none_more}
+-- `levels::linked` meets its contract: each grantor is asked.
+use Rattle.std.proofs.Common.{rules, tests, refl, arith}
+use Rattle.std.proofs.lemmas.Iterator.{YieldsList-from_range, serves_from_Range}
+use Rattle.rights.specs.Level.{linked, linked_by}
+use Rattle.theory.proofs.Range.{any_over}
+use Rattle.registers.proofs.Bounds.{readable_high}
 use Rattle.levels.proofs.linked.Goals as goal
 
-pub loop-x-init : goal.loop-x-init
-unfolding any_below
-loop-x-init c = (omega arith, refl)
-
-pub returns-then-links : goal.returns-then-links
-unfolding linked
-returns-then-links c =
-    let l : c.loop-x.x < c.args.header.n = omega arith in
-    sym (any_from _ _ _ l (rw c.links.ensures at c.if-links.true))
-
-pub loop-x-preserved : goal.loop-x-preserved
-loop-x-preserved c =
-    (omega arith, none_more _ _ c.loop-x.invariant.1 (sym c.links.ensures ∙ c.if-links.false))
+pub any-requires-clause-callable : goal.any-requires-clause-callable
+any-requires-clause-callable c =
+    let r = c.args.register.now in
+    let high = readable_high r.header r.cells.now r.is_readable in
+    serves_from_Range (λ x q k. search (rules, tests)) (λ x low below. omega (arith, high))
 
 pub returns : goal.returns
 unfolding linked
 returns c =
-    let e : c.loop-x.x ≡ c.args.header.n = omega arith in
-    sym (rw e at c.loop-x.invariant.1)
+    let r = c.args.register.now in
+    any_over r.header.n (linked_by r.header r.cells.now c.args.perm c.args.marks.now c.args.y) _ _ _ c.any.ensures.ran
+    (YieldsList-from_range 0 r.header.n r.header.n refl (omega arith))
+    (λ x b q k. search (rules, tests))

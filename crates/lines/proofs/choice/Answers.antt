@@ -1,12 +1,16 @@
--- `lines::choice` meets its contract: the word stands there, or the others decide. Assumes nothing.
-use mathlib.Core.Path.{refl, sym, ◌∙◌}
-use Rattle.lines.specs.Read.{choice_read}
+-- `lines::choice` meets its contract. The loop's invariant: the words left give what the whole table gives.
+use Rattle.std.proofs.Common.{refl}
+use Rattle.lines.proofs.Words.{choice_more, choice-found, choice-none}
 use Rattle.lines.proofs.choice.Goals as goal
 
-pub returns-in_default : goal.returns-in_default
-unfolding choice_read
-returns-in_default c = rw (sym c.word.ensures ∙ c.in_default.is) refl
+pub loop-bytes-init : goal.loop-bytes-init
+loop-bytes-init c = record { left = refl }
+
+pub returns-in-Some : goal.returns-in-Some
+returns-in-Some c = choice-found c.loop-bytes.invariant _ _ c.loop-bytes-test.true c.in-Some.ensures
+
+pub loop-bytes-preserved : goal.loop-bytes-preserved
+loop-bytes-preserved c = choice_more c.loop-bytes.invariant _ c.loop-bytes-test.true c.in_default.ensures
 
 pub returns : goal.returns
-unfolding choice_read
-returns c = rw (sym c.word.ensures ∙ c.in-Next.is) refl
+returns c = choice-none c.loop-bytes.invariant c.loop-bytes-test.false

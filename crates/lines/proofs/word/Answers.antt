@@ -1,19 +1,16 @@
--- `lines::word` meets its contract. The loop's invariant: what is left of the word gives what the whole word gives. Assumes nothing.
-use native.Mathlib.Omega.{arith}
-use Rattle.lines.proofs.WordSoFar.{word_start, word_more, word_stop, word_short, word_end}
+-- `lines::word` meets its contract: the library finds the word, and what it leaves of the text says where that goes on.
+use Rattle.std.proofs.Common.{arith, ◌<◌, length, ◌∙◌}
+use mathlib.Core.Logic.{⊎_elim}
+use Rattle.lines.proofs.WordRead.{word-past, word-other, word-stands}
 use Rattle.lines.proofs.word.Goals as goal
 
-pub loop-k-init : goal.loop-k-init
-loop-k-init c = word_start _ _ _ c.requires
+pub returns-in_err-get : goal.returns-in_err-get
+returns-in_err-get c =
+    let past : length c.args.text.now < c.args.at = ⊎_elim (λ h. h) (λ h. omega arith) c.in_err-get.ensures.lookup.0 in
+    c.from_residual.ensures ∙ word-past _ _ _ past c.requires
 
-pub returns-then-text-at : goal.returns-then-text-at
-returns-then-text-at c = word_short c.loop-k.invariant (omega arith) c.if-text-at.true
-
-pub returns-then-text-at-2 : goal.returns-then-text-at-2
-returns-then-text-at-2 c = word_stop c.loop-k.invariant (omega arith) (omega arith) c.if-text-at-2.true
-
-pub loop-k-preserved : goal.loop-k-preserved
-loop-k-preserved c = word_more c.loop-k.invariant (omega arith) (omega arith) c.if-text-at-2.false
+pub returns-in_err-rest : goal.returns-in_err-rest
+returns-in_err-rest c = c.from_residual-in_err-rest.ensures ∙ word-other _ _ _ c.in_ok-get.ensures.lookup.0.2 c.in_err-rest.ensures.cases
 
 pub returns : goal.returns
-returns c = word_end c.loop-k.invariant (omega arith)
+returns c = word-stands _ _ _ c.in_ok-get.ensures.lookup.0.2 c.in_ok-rest.ensures.cases.0 c.in_ok-rest.ensures.cases.1

@@ -1,19 +1,17 @@
--- `outputs::put_header` meets its contract. Assumes nothing.
+-- `outputs::put_header` meets its contract.
 use native.Mathlib.Omega.{arith}
-use Rattle.wording.specs.Lines.{header_text}
 use Rattle.wording.specs.Writer.{header_written}
 use Rattle.wording.proofs.Length.{header_short}
 use Rattle.outputs.proofs.Accepted.{header_accepted}
 use Rattle.outputs.proofs.Part.{put_part}
 use Rattle.outputs.proofs.put_header.Goals as goal
 
-pub overflow_add-result : goal.overflow_add-result
+pub overflow_add-page : goal.overflow_add-page
 unfolding header_written
-overflow_add-result c =
-    omega (arith, c.requires.1, (put_part _ 26 c.args.from (header_text c.args.header) c.args.room.now (header_accepted c.args.header c.requires.0) c.requires.1 (header_short c.args.header c.requires.0 (omega arith)) c.write_header-lines.ensures).few)
+overflow_add-page c =
+    let there = put_part c.args.page.now _ 26 _ (header_accepted _ c.requires.0) c.requires.1 (header_short _ c.requires.0 (omega arith)) c.write_header-lines.ensures in
+    omega (arith, c.requires.1.enough, there.few)
 
 pub returns : goal.returns
 unfolding header_written
-returns c =
-    let there = put_part _ 26 c.args.from (header_text c.args.header) c.args.room.now (header_accepted c.args.header c.requires.0) c.requires.1 (header_short c.args.header c.requires.0 (omega arith)) c.write_header-lines.ensures in
-    record { text = there.text_put; few = there.few }
+returns c = put_part c.args.page.now _ 26 _ (header_accepted _ c.requires.0) c.requires.1 (header_short _ c.requires.0 (omega arith)) c.write_header-lines.ensures

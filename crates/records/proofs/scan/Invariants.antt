@@ -1,4 +1,4 @@
--- `records::scan` meets its contract. The loop's invariant: what is left to read gives what the whole text gives. Assumes nothing.
+-- `records::scan` meets its contract. The loop's invariant: what is left to read gives what the whole text gives.
 use Prim.Native.Nat.{◌-◌}
 use lib.ListN.{length}
 use Rattle.records.specs.Read.{text_record}

@@ -1,4 +1,4 @@
--- `regrun::room` meets its contract by a law over the length: so many zeros are not counted one by one. Assumes nothing.
+-- `regrun::room` meets its contract by a law over the length: so many zeros are not counted one by one.
 use Prim.Native.Nat.{ℕ}
 use mathlib.Core.Path.{◌≡◌, sym}
 use lib.ListN.{length, replicate, length-replicate}

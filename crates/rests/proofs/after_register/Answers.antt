@@ -1,6 +1,6 @@
--- `rests::after_register` meets its contract: the rest starts where the register ends. Assumes nothing.
+-- `rests::after_register` meets its contract: the rest starts where the register ends.
 use Rattle.rests.proofs.Rest.{register_rest_told}
 use Rattle.rests.proofs.after_register.Goals as goal
 
 pub returns : goal.returns
-returns c = register_rest_told _ _ c.read_register-read.ensures c.register_rest.ensures
+returns c = register_rest_told _ _ c.read_register.ensures c.rest_from.ensures

@@ -1,4 +1,4 @@
--- `row_writer::cell_size` meets its contract: as many records as the cell has, each as long as the other. Assumes nothing.
+-- `row_writer::cell_size` meets its contract: as many records as the cell has, each as long as the other.
 use Prim.Native.Nat.{ℕ, ◌+◌, ◌*◌, ◌≤◌}
 use native.Mathlib.Nat.{mul-le-mul}
 use native.Mathlib.Omega.{arith}

@@ -1,20 +1,21 @@
--- `row_writer::row_refusal` meets its contract. Assumes nothing.
-use borrow.Author.Tests.{ne_eqb, lt-ltb, le-ltb}
-use Rattle.rights.specs.Sound.{first_of, unless}
+-- `row_writer::row_refusal` meets its contract.
+use borrow.Author.Tests.{lt-ltb, le-ltb}
+use Rattle.std.proofs.lemmas.Result.{err_from_is_err_and}
+use Rattle.rights.specs.Sound.{unless}
+use Rattle.theory.proofs.Refusal.{refused_first, passed_first}
 use Rattle.wording.specs.Writer.{row_refusal}
 use Rattle.row_writer.proofs.row_refusal.Goals as goal
 
-pub register_refusal-register-requires : goal.register_refusal-register-requires
-register_refusal-register-requires c = tt
+pub returns-in_err-register_refusal : goal.returns-in_err-register_refusal
+unfolding row_refusal
+returns-in_err-register_refusal c =
+    let p = err_from_is_err_and c.from_residual.result c.from_residual.ensures.1 in
+    rw (p.1, p.2) (refused_first _ _ c.in_err-register_refusal.ensures)
 
-pub returns-then-register-ne0 : goal.returns-then-register-ne0
-unfolding row_refusal first_of unless
-returns-then-register-ne0 c = rw (← c.register_refusal-register.ensures, ne_eqb _ _ c.if-register-ne0.true)
+pub returns-then-header-row : goal.returns-then-header-row
+unfolding row_refusal unless
+returns-then-header-row c = rw (le-ltb _ _ c.if-header-row.true) (passed_first 6 c.in_ok-register_refusal.ensures)
 
-pub returns-then-row-header : goal.returns-then-row-header
-unfolding row_refusal first_of unless
-returns-then-row-header c = rw (← c.register_refusal-register.ensures, c.if-register-ne0.false, lt-ltb _ _ c.if-row-header.true)
-
-pub returns-else-row-header : goal.returns-else-row-header
-unfolding row_refusal first_of unless
-returns-else-row-header c = rw (← c.register_refusal-register.ensures, c.if-register-ne0.false, le-ltb _ _ c.if-row-header.false)
+pub returns : goal.returns
+unfolding row_refusal unless
+returns c = rw (lt-ltb _ _ c.if-header-row.false) (passed_first 0 c.in_ok-register_refusal.ensures)

@@ -128,7 +128,7 @@ fn write(
 }
 
 // Searches for the chain and writes it, where none of the refusals but 12 applies.
-#[tactic(auto, using(registers::proofs::Bounds::readable_high))]
+#[tactic(auto, using(registers::proofs::Bounds::readable_high, registers::proofs::Bounds::readable_inside, crate::proofs::Answered::searching))]
 fn search(
     register: &Register,
     office: Office,
@@ -164,6 +164,7 @@ fn form_refusal(header: Header, office: Office, perm: u8, room: usize) -> Result
 }
 
 // The holding question: of how many offices the chain is, or the first refusal that applies.
+#[tactic(auto, using(theory::proofs::Refusal::passed_readable, crate::proofs::Refusals::formed, crate::proofs::Answered::answering))]
 fn asked(
     cells: &[u8],
     header: Header,

@@ -23,14 +23,10 @@ use Rattle.local.proofs.Local.{Lent, lent}
 use Rattle.commands.specs.declared.Outcome.{Outcome}
 use Rattle.commands.specs.Post.{Answers}
 
--- a refused command answers its refusal and leaves the register
-pub refused_as :
-    (h : Header) (R : List ℕ) (c : Command) (r : Refusal) {k m l : ℕ} → number r ≡ refusal h R c → k ≡ number r → m ≡ 0 → l ≡ 0 →
-    Answers (outcome h R c) (record { answer = k; removed = m; added = l }) R
-unfolding outcome refused
-refused_as h R c r e answer removed added =
-    let applies = ne_eqb (refusal h R c) 0 (λ z. number-nonzero r (e ∙ z)) in
-    record { answer = rw applies (answer ∙ e); removed = rw applies removed; added = rw applies added; cells = rw applies }
+-- the outcome of a command that is refused
+pub outcome_refused : (h : Header) (R : List ℕ) (c : Command) (r : Refusal) → number r ≡ refusal h R c → outcome h R c ≡ refused R (number r)
+unfolding outcome
+outcome_refused h R c r e = rw (← e, ne_eqb (number r) 0 (number-nonzero r))
 
 module _ (h : Header) (R : List ℕ) (c : Command) (none : refusal h R c ≡ 0) where
   ready : Ready h R

@@ -15,11 +15,11 @@ use Rattle.rights.specs.Act.{act_number}
 use Rattle.rights.specs.Permission.{need}
 use Rattle.rights.specs.Level.{level_in, levels}
 use Rattle.rights.specs.Sound.{headed, whole, readable, register_refusal}
-use Rattle.rights.specs.Command.{may_grant, is_grant, form_refusal, grant_refusal, deletion_refusal, refusal}
+use Rattle.rights.specs.Command.{by_of, may_grant, is_grant, form_refusal, grant_refusal, deletion_refusal, refusal}
 use Rattle.theory.proofs.Tests.{left_of}
 use Rattle.theory.proofs.Ready.{headed_inside}
 use Rattle.theory.proofs.Sound.{may_grant_lem}
-use Rattle.theory.proofs.Refusals.{first_passed}
+use Rattle.theory.proofs.Refusals.{first_passed, form_passed}
 use Rattle.theory.proofs.Refusal.{act_number-injective}
 use Rattle.levels.specs.Padded.{padded_levels}
 use Rattle.levels.proofs.Given.{level_padded, levels_read}
@@ -33,6 +33,10 @@ granting h R i p t l level e =
     may_grant_lem h R (headed_inside h (left_of (headed h) (whole h R) t)) i p l
     ∙ ap (leb (need p)) (sym (ap (λ (ls : List ℕ). get_or ls i 0) (level ∙ levels_read h R t) ∙ level_padded (levels h R) i))
     ∙ sym e
+
+-- a command whose form is not refused is given by an office in range
+pub form_by : (h : Header) (c : Command) → 0 ≡ form_refusal h c → by_of c < h.n
+form_by h c e = (form_passed h c (sym e)).by
 
 module _ (h : Header) (R : List ℕ) (c : Command) (register : 0 ≡ register_refusal h R) where
   module _ {act : Act} (number : act_number act ≡ c.act) (form : 0 ≡ form_refusal h c) {a : ℕ} where

@@ -11,7 +11,7 @@ use Rattle.rights.specs.Refusal.{number, answer_of}
 use Rattle.rights.specs.declared.Act.{Act}
 use Rattle.rights.specs.declared.Act.TheVariants.{Grant, WLD, WGD, SLD, SGD}
 use Rattle.rights.specs.Act.{act_number}
-use Rattle.rights.specs.Sound.{first_of, unless, readable, register_refusal}
+use Rattle.rights.specs.Sound.{first_of, readable, register_refusal}
 use Rattle.theory.proofs.Once.{Once}
 use Rattle.theory.proofs.Refusals.{first_applies, first_passed, register_ready}
 use Rattle.theory.proofs.Tests.{both}

@@ -1,7 +1,7 @@
 -- `questions::write` meets its contract: it calls itself with one link fewer.
 use native.Mathlib.Omega.{arith}
 use Rattle.questions.proofs.First.{first_most}
-use Rattle.questions.proofs.Reading.{few, soa_inside}
+use Rattle.questions.proofs.Reading.{few}
 use Rattle.questions.proofs.Written.{written-first, written_next}
 use Rattle.questions.proofs.+write.Goals as goal
 

@@ -7,7 +7,6 @@ use borrow.Author.Count.{below_none, below_more}
 use Rattle.rights.specs.Level.{is_in}
 use Rattle.rights.specs.Question.{links_away}
 use Rattle.questions.proofs.First.{first_found, first_after}
-use Rattle.questions.proofs.Reading.{few, soa_inside}
 use Rattle.questions.proofs.Sets.{reading_at, away_step}
 use Rattle.questions.proofs.fewest.Goals as goal
 

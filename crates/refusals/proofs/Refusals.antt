@@ -20,7 +20,7 @@ use Rattle.theory.proofs.Tests.{left_of}
 use Rattle.theory.proofs.Ready.{headed_inside}
 use Rattle.theory.proofs.Sound.{may_grant_lem}
 use Rattle.theory.proofs.Refusals.{first_passed, form_passed}
-use Rattle.theory.proofs.Refusal.{act_number-injective}
+use Rattle.rights.proofs.Unique.{act_number-injective}
 use Rattle.levels.specs.Padded.{padded_levels}
 use Rattle.levels.proofs.Given.{level_padded, levels_read}
 

@@ -4,8 +4,8 @@ use Rattle.std.specs.declared.result.Result.{Result}
 use Rattle.rights.specs.declared.Act.{Act}
 use Rattle.rights.specs.declared.Refusal.{Refusal}
 use Rattle.theory.proofs.Once.{Once}
-use Rattle.theory.proofs.Refusal.{act_once, judged_once}
+use Rattle.theory.proofs.Refusal.{numbered_once, judged_once}
 use Rattle.refusals.proofs.refusal.Reads as refusal
 
 pub refusal_once : (κs : _) (a : _) (exit : _) → Once (λ (r : Result Act Refusal). refusal.Post κs a r exit)
-refusal_once κs a exit r s p q = judged_once _ (act_once _) r s (p.0, p.1) (q.0, q.1)
+refusal_once κs a exit r s p q = judged_once _ (numbered_once _) r s (p.0, p.1) (q.0, q.1)

@@ -9,8 +9,8 @@ use Rattle.rights.specs.declared.Refusal.{Refusal}
 use Rattle.rights.specs.declared.Refusal.TheVariants.{NoHeader, WrongLength, Unsound, NoCommand, OtherLayer, NoOffice, Barred, NotEntitled, Standing, EmptyCell, ShortChain, NotHeld, BadText, LittleRoom, LongInput, LongRun}
 use Rattle.rights.specs.Refusal.{number, answer_of}
 use Rattle.rights.specs.declared.Act.{Act}
-use Rattle.rights.specs.declared.Act.TheVariants.{Grant, WLD, WGD, SLD, SGD}
 use Rattle.rights.specs.Act.{act_number}
+use Rattle.rights.proofs.Unique.{act_number-injective}
 use Rattle.rights.specs.Sound.{first_of, readable, register_refusal}
 use Rattle.theory.proofs.Once.{Once}
 use Rattle.theory.proofs.Refusals.{first_applies, first_passed, register_ready}
@@ -95,21 +95,6 @@ answer_once k (Ok x) (Err s) p q = absurd (number-nonzero s (q ∙ sym p))
 answer_once k (Err r) (Ok y) p q = absurd (number-nonzero r (p ∙ sym q))
 answer_once k (Err r) (Err s) p q = ap Err (number-injective r s (p ∙ sym q))
 
--- the act of a number
-unfoldable act_at : ℕ → Act
-act_at k = get_or (Grant ∷ WLD ∷ WGD ∷ SLD ∷ SGD ∷ []) k Grant
-
-act_at-number : (act : Act) → act_at (act_number act) ≡ act
-unfolding act_at
-act_at-number Grant = refl
-act_at-number WLD = refl
-act_at-number WGD = refl
-act_at-number SLD = refl
-act_at-number SGD = refl
-
--- no two acts have one number
-pub act_number-injective : (a b : Act) → act_number a ≡ act_number b → a ≡ b
-act_number-injective a b e = sym (act_at-number a) ∙ (ap act_at e ∙ act_at-number b)
-
-pub act_once : (k : ℕ) → Once (λ (act : Act). act_number act ≡ k)
-act_once k a b p q = act_number-injective a b (p ∙ sym q)
+-- a number is that of one act
+pub numbered_once : (k : ℕ) → Once (λ (act : Act). act_number act ≡ k)
+numbered_once k a b p q = act_number-injective a b (p ∙ sym q)

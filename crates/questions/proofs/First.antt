@@ -1,4 +1,4 @@
--- The first number at which a test passes, as a loop finds it. Assumes nothing.
+-- The first number at which a test passes, as a loop finds it.
 use Prim.Native.Nat.{ℕ, zero, suc, ◌≤◌, ◌<◌}
 use native.Mathlib.Omega.{arith}
 use mathlib.Core.Path.{◌≡◌, refl, sym, ◌∙◌}
@@ -7,8 +7,8 @@ use mathlib.Core.Bool.{Bool, true, false}
 use lib.Dec.{ltb}
 use borrow.Author.Tests.{lt-ltb, le-ltb}
 use Rattle.rights.specs.Below.{any_below, first_below}
-use Rattle.theory.proofs.Tests.{decided, clash, fails}
-use Rattle.theory.proofs.Below.{below_or_not, any_from, any_found, any_ext, first-at, first_below_lem, first-none, first_least}
+use Rattle.theory.proofs.Tests.{decided, clash}
+use Rattle.theory.proofs.Below.{below_or_not, any_from, any_ext, first-at, first_below_lem, first-none, first_least}
 
 module _ (n : ℕ) (f : ℕ → Bool) where
   -- the test passes at y, and at no number before
@@ -19,10 +19,17 @@ module _ (n : ℕ) (f : ℕ → Bool) where
       (λ (same : y ≤ first_below n f). let least = first_least n f y l at in omega arith)
       (below_or_not (first_below n f) y)
 
-  -- the test passes at no number
-  pub first_absent : ((k : ℕ) → k < n → f k ≡ false) → n ≡ first_below n f
-  first_absent before =
-      sym (first-none n f (fails (any_below n f) (λ e. let r = any_found n f e in clash r.passes (before r.at r.below))))
+  -- the test passes at no number before m
+  pub first_after : (m : ℕ) → m ≤ n → ((k : ℕ) → k < m → f k ≡ false) → m ≤ first_below n f
+  first_after m within before =
+      ⊎_elim
+      (λ (e : any_below n f ≡ true).
+      ⊎_elim
+      (λ (early : first_below n f < m). clash (first-at n f e) (before (first_below n f) early))
+      (λ (late : m ≤ first_below n f). late)
+      (below_or_not (first_below n f) m))
+      (λ (e : any_below n f ≡ false). let none = first-none n f e in omega arith)
+      (decided (any_below n f))
 
   -- whether there is one
   pub first_any : ltb (first_below n f) n ≡ any_below n f

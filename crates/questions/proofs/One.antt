@@ -1,4 +1,4 @@
--- The set of one office as an array of marks. Assumes nothing.
+-- The set of one office as an array of marks.
 use Prim.Native.Nat.{ℕ, ◌≤◌, ◌<◌}
 use native.Mathlib.Omega.{arith}
 use mathlib.Core.Path.{◌≡◌, refl, sym, ◌∙◌}

@@ -1,17 +1,13 @@
--- What a code that is read as a permission is passed on by. Assumes nothing.
-use Prim.Native.Nat.{ℕ}
-use mathlib.Core.Path.{◌≡◌}
-use mathlib.Core.Logic.{◌⊎◌}
-use Rattle.rights.specs.Permission.{decoded, passing}
-use Rattle.theory.proofs.Cell.{passing_2, passing_1}
-use Rattle.carrying.proofs.Carried.{need-whole, need_part}
+-- What is known of a register that can be read.
+use Prim.Native.Nat.{◌≤◌, ◌<◌}
+use Rattle.registers.specs.declared.Register.{Register}
+use Rattle.rights.specs.Register.{soa_of}
+use Rattle.levels.proofs.Given.{readable-header}
 
--- TT alone passes TT and FT on
-pub passed_whole : {k : ℕ} → (k ≡ 2) ⊎ (k ≡ 8) → passing (decoded k) ≡ decoded 8
-unfolding decoded
-passed_whole {k} whole = passing_2 (decoded k) (need-whole whole)
+-- it has 128 offices at most, so that an array of 128 marks has one for each
+pub few : (r : Register) → r.header.n ≤ 128
+few r = (readable-header r.header r.cells.now r.is_readable).0
 
--- TF passes TF and FF on
-pub passed_part : (k : ℕ) → ((k ≡ 2) ⊎ (k ≡ 8) → ⊥) → passing (decoded k) ≡ decoded 4
-unfolding decoded
-passed_part k other = passing_1 (decoded k) (need_part k other)
+-- SOA is one of them
+pub soa_inside : (r : Register) → soa_of r.header < r.header.n
+soa_inside r = (readable-header r.header r.cells.now r.is_readable).1

@@ -1,4 +1,4 @@
--- What is known of a question where no refusal by its form applies. Assumes nothing.
+-- What is known of a question where no refusal by its form applies.
 use Prim.Native.Nat.{ℕ, ◌≤◌, ◌<◌}
 use mathlib.Core.Path.{◌≡◌}
 use lib.Dec.{ltb, leb}

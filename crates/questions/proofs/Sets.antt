@@ -1,4 +1,4 @@
--- Sets of offices made up to 128 marks are the sets of the definitions: a set counts by what is in it alone. Assumes nothing.
+-- Sets of offices made up to 128 marks are the sets of the definitions: a set counts by what is in it alone.
 use Prim.Native.Nat.{ℕ, zero, suc}
 use mathlib.Core.Path.{◌≡◌, refl, ap, ◌∙◌}
 use mathlib.Core.Bool.{Bool, false}

@@ -1,4 +1,4 @@
--- The chain as the recursion writes it: SOA, and then one office more at each return. Assumes nothing.
+-- The chain as the recursion writes it: SOA, and then one office more at each return.
 use Prim.Native.Nat.{ℕ, zero, suc, ◌+◌, ◌-◌, ◌<◌}
 use native.Mathlib.Nat.{not-suc-le-zero}
 use native.Mathlib.Numerals.{add-one, sub-one}

@@ -2,15 +2,16 @@
 // A set of offices is an array of 128 marks, one for each office there can be, and a mark of no office is false.
 #![tactic(auto)]
 
-ghost use Rattle.std.specs.Prelude.{◌≡◌, false, ◌+◌, ◌≤◌, ◌<◌, ◌++◌, length, drop, set as set_at};
+ghost use Rattle.std.specs.Prelude.{◌≡◌, false, ◌+◌, ◌≤◌, ◌<◌, ◌++◌, length, drop, set as set_at, MatchOption};
 ghost use Rattle.rights.specs.Below.{first_below};
 ghost use Rattle.rights.specs.Permission.{decoded, passing};
-ghost use Rattle.rights.specs.Register.{soa_of};
+ghost use Rattle.rights.specs.Refusal.{answer_of};
 ghost use Rattle.rights.specs.Question.{single as set_of_one, nearer as nearer_soa, last_of, smallest, question_form_refusal, answered, link_into, fewest_into};
 ghost use Rattle.levels.specs.Padded.{padded};
-ghost use Rattle.questions.specs.Step.{searched, outcome_of};
+ghost use Rattle.questions.specs.Step.{searched, outcome_as};
 
-use rights::{Header, Office};
+use registers::Register;
+use rights::{Header, Office, Permission, Refusal};
 
 // What a question answers: 0 or the refusal, and of how many offices the chain is, 0 where it is refused.
 #[repr(C)]
@@ -21,86 +22,72 @@ pub struct Held {
 }
 
 // What a link is read as for the next one to be read as this permission: TT where only TT passes it on, and otherwise TF.
-fn passing_on(perm: u8) -> u8
-    ensures { decoded result ≡ passing (decoded perm) }
+#[tactic(auto, unfolding(rights::specs::Permission::passing))]
+fn passing_on(perm: Permission) -> Permission
+    ensures { result ≡ passing perm }
 {
     match perm {
-        2 | 8 => 8,
-        _ => 4,
+        Permission::TT | Permission::FT => Permission::TT,
+        Permission::TF | Permission::FF => Permission::TF,
     }
 }
 
 // Whether y is in the set and x has a link to it that can be read as the permission.
-fn link_into(cells: &[u8], header: Header, perm: u8, set: &[bool; 128], x: u16, y: u16) -> bool
+#[tactic(auto, unfolding(rights::specs::Level::is_in))]
+fn link_into(register: &Register, perm: Permission, set: &[bool; 128], x: u16, y: u16) -> bool
     requires { y < 128 }
-    ensures { result ≡ link_into header cells.now (decoded perm) set.now x y }
+    ensures { result ≡ link_into register.now.header register.now.cells.now perm set.now x y }
 {
-    if set[y as usize] {
-        return carrying::carries(registers::cell(cells, header, Office(x), Office(y)), perm);
-    }
-    false
+    set[y as usize] && carrying::carries_as(register.cell(Office(x), Office(y)), perm)
 }
 
 // The smallest office of the set to which x has such a link; n where there is none.
-fn first_into(cells: &[u8], header: Header, perm: u8, set: &[bool; 128], x: u16) -> u16
-    requires { header.n ≤ 128 }
-    ensures { result ≡ first_below header.n (link_into header cells.now (decoded perm) set.now x) }
+fn first_into(register: &Register, perm: Permission, set: &[bool; 128], x: u16) -> u16
+    ensures { result ≡ first_below register.now.header.n (link_into register.now.header register.now.cells.now perm set.now x) }
 {
-    let n = header.n;
-    let mut y = 0;
-    while y < n {
-        if link_into(cells, header, perm, set, x, y) {
-            return y;
-        }
-        y += 1;
-    }
-    n
+    let n = register.header.n;
+    (0..n)
+        .find(|&y| link_into(register, perm, set, x, y))
+        .unwrap_or(n)
 }
 
 // The offices with a link into the set: one link nearer SOA.
-fn nearer(cells: &[u8], header: Header, perm: u8, set: &[bool; 128]) -> [bool; 128]
-    requires { header.n ≤ 128 }
-    ensures { result ≡ padded false (nearer_soa header cells.now (decoded perm) set.now) }
+fn nearer(register: &Register, perm: Permission, set: &[bool; 128]) -> [bool; 128]
+    ensures { result ≡ padded false (nearer_soa register.now.header register.now.cells.now perm set.now) }
 {
-    let n = header.n;
+    let n = register.header.n;
     let mut near = [false; 128];
-    let mut x = 0;
-    while x < n {
-        near[x as usize] = first_into(cells, header, perm, set, x) < n;
-        x += 1;
+    for x in 0..n {
+        near[x as usize] = first_into(register, perm, set, x) < n;
     }
     near
 }
 
 // The set of one office.
-fn single(header: Header, office: Office) -> [bool; 128]
-    requires { (header.n ≤ 128) × (office.0 < header.n) }
-    ensures { result ≡ padded false (set_of_one header office.0) }
+fn single(register: &Register, office: Office) -> [bool; 128]
+    requires { office.0 < register.now.header.n }
+    ensures { result ≡ padded false (set_of_one register.now.header office.0) }
 {
     let mut set = [false; 128];
     set[office.0 as usize] = true;
     set
 }
 
-// The fewest links of a chain from SOA into the set, the last read as the permission; n + 1 where there is none.
-fn fewest(cells: &[u8], header: Header, perm: u8, set: &[bool; 128]) -> u16
-    requires { (header.n ≤ 128) × (soa_of header < header.n) }
-    ensures { result ≡ fewest_into header cells.now (decoded perm) set.now }
+// The fewest links of a chain from SOA into the set, the last read as the permission, where there is one: a chain names no office
+// twice, so it has fewer links than there are offices.
+fn fewest(register: &Register, perm: Permission, set: &[bool; 128]) -> Option<u16>
+    ensures { MatchOption result (register.now.header.n ≤ fewest_into register.now.header register.now.cells.now perm set.now) (λ links. (links < register.now.header.n) × (links ≡ fewest_into register.now.header register.now.cells.now perm set.now)) }
 {
-    let n = header.n;
-    let soa = header.soa.0 as usize;
     let mut near = *set;
     let mut reading = perm;
-    let mut links = 0;
-    while links <= n {
-        if near[soa] {
-            return links;
+    for links in 0..register.header.n {
+        if near[register.header.soa.0 as usize] {
+            return Some(links);
         }
-        near = nearer(cells, header, reading, &near);
+        near = nearer(register, reading, &near);
         reading = passing_on(perm);
-        links += 1;
     }
-    links
+    None
 }
 
 // Puts one office of the chain into the buffer, one byte.
@@ -114,67 +101,77 @@ fn put(chain: &mut [u8], at: u16, office: u16)
 // Writes the smallest chain of so many links from SOA into the set, and returns its last office. The chain to the set one link
 // nearer SOA, a call of its own, comes first, and its last office decides which office of this set is taken.
 fn write(
-    cells: &[u8],
-    header: Header,
-    perm: u8,
+    register: &Register,
+    perm: Permission,
     links: u16,
     set: &[bool; 128],
     chain: &mut [u8],
 ) -> u16
-    requires n_bound { (header.n ≤ 128) × (soa_of header < header.n) }
-    requires links_lt_n { (links < header.n) × (header.n ≤ length chain.old) }
-    ensures last { result ≡ last_of (smallest header cells.now (decoded perm) links set.now) }
-    ensures whole { chain.new ≡ smallest header cells.now (decoded perm) links set.now ++ drop (links + 1) chain.old }
+    requires { (links < register.now.header.n) × (register.now.header.n ≤ length chain.old) }
+    ensures last { result ≡ last_of (smallest register.now.header register.now.cells.now perm links set.now) }
+    ensures whole { chain.new ≡ smallest register.now.header register.now.cells.now perm links set.now ++ drop (links + 1) chain.old }
 {
     if links == 0 {
-        let soa = header.soa.0;
+        let soa = register.header.soa.0;
         put(chain, links, soa);
         return soa;
     }
-    let near = nearer(cells, header, perm, set);
-    let before = write(cells, header, passing_on(perm), links - 1, &near, chain);
-    let office = first_into(cells, header, perm, set, before);
+    let near = nearer(register, perm, set);
+    let before = write(register, passing_on(perm), links - 1, &near, chain);
+    let office = first_into(register, perm, set, before);
     put(chain, links, office);
     office
 }
 
 // Searches for the chain and writes it, where none of the refusals but 12 applies.
-fn search(cells: &[u8], header: Header, office: Office, perm: u8, chain: &mut [u8]) -> Held
-    requires n_bound { (header.n ≤ 128) × (soa_of header < header.n) }
-    requires office_lt_n { (office.0 < header.n) × (header.n ≤ length chain.old) }
-    ensures { outcome_of result.answer result.offices chain.new ≡ searched header cells.now (decoded perm) office.0 chain.old }
+fn search(
+    register: &Register,
+    office: Office,
+    perm: Permission,
+    chain: &mut [u8],
+) -> Result<u8, Refusal>
+    requires { (office.0 < register.now.header.n) × (register.now.header.n ≤ length chain.old) }
+    ensures { outcome_as result chain.new ≡ searched register.now.header register.now.cells.now perm office.0 chain.old }
 {
-    let n = header.n;
-    let set = single(header, office);
-    let links = fewest(cells, header, perm, &set);
-    if n <= links {
-        return Held {
-            answer: 12,
-            offices: 0,
-        };
-    }
-    write(cells, header, perm, links, &set, chain);
-    Held {
-        answer: 0,
-        offices: links as u8 + 1,
-    }
+    let set = single(register, office);
+    let Some(links) = fewest(register, perm, &set) else {
+        return Err(Refusal::NotHeld);
+    };
+    write(register, perm, links, &set, chain);
+    Ok(links as u8 + 1)
 }
 
-// The first of refusals 4, 6 and 11 that applies; 0 where none does.
-fn form_refusal(header: Header, office: Office, perm: u8, room: usize) -> u8
-    ensures { result ≡ question_form_refusal header office.0 perm room }
+// The first of refusals 4, 6 and 11 that applies.
+#[tactic(auto, unfolding(rights::specs::Question::question_form_refusal, rights::specs::Sound::first_of, rights::specs::Sound::unless))]
+fn form_refusal(header: Header, office: Office, perm: u8, room: usize) -> Result<(), Refusal>
+    ensures { answer_of result ≡ question_form_refusal header office.0 perm room }
 {
-    let n = header.n;
     if !cells::is_code(perm) {
-        return 4;
+        return Err(Refusal::NoCommand);
     }
-    if n <= office.0 {
-        return 6;
+    if header.n <= office.0 {
+        return Err(Refusal::NoOffice);
     }
-    if room < n as usize {
-        return 11;
+    if room < header.n as usize {
+        return Err(Refusal::ShortChain);
     }
-    0
+    Ok(())
+}
+
+// The holding question: of how many offices the chain is, or the first refusal that applies.
+fn asked(
+    cells: &[u8],
+    header: Header,
+    office: Office,
+    perm: u8,
+    chain: &mut [u8],
+) -> Result<u8, Refusal>
+    ensures { outcome_as result chain.new ≡ answered header cells.now office.0 perm chain.old }
+{
+    sound::register_refusal(cells, header)?;
+    form_refusal(header, office, perm, chain.len())?;
+    let register = Register { cells, header };
+    search(&register, office, Permission::decoded(perm), chain)
 }
 
 // The holding question. Refused, it leaves the buffer as it was; done, the chain stands at its start, and later bytes stay.
@@ -183,19 +180,11 @@ pub fn holding(cells: &[u8], header: Header, office: Office, perm: u8, chain: &m
     ensures offices { result.offices ≡ (answered header cells.now office.0 perm chain.old).offices }
     ensures chain { chain.new ≡ (answered header cells.now office.0 perm chain.old).chain }
 {
-    let register = sound::register_refusal(cells, header);
-    if register != 0 {
-        return Held {
-            answer: register,
+    match asked(cells, header, office, perm, chain) {
+        Ok(offices) => Held { answer: 0, offices },
+        Err(refusal) => Held {
+            answer: refusal.number(),
             offices: 0,
-        };
+        },
     }
-    let form = form_refusal(header, office, perm, chain.len());
-    if form != 0 {
-        return Held {
-            answer: form,
-            offices: 0,
-        };
-    }
-    search(cells, header, office, perm, chain)
 }

@@ -16,10 +16,10 @@ use Rattle.rights.specs.Permission.{need}
 use Rattle.rights.specs.Level.{level_in, levels}
 use Rattle.rights.specs.Sound.{headed, whole, readable, register_refusal}
 use Rattle.rights.specs.Command.{may_grant, is_grant, form_refusal, grant_refusal, deletion_refusal, refusal}
-use Rattle.theory.proofs.Tests.{left_of, both}
+use Rattle.theory.proofs.Tests.{left_of}
 use Rattle.theory.proofs.Ready.{headed_inside}
 use Rattle.theory.proofs.Sound.{may_grant_lem}
-use Rattle.theory.proofs.Refusals.{first_passed, register_ready}
+use Rattle.theory.proofs.Refusals.{first_passed}
 use Rattle.theory.proofs.Refusal.{act_number-injective}
 use Rattle.levels.specs.Padded.{padded_levels}
 use Rattle.levels.proofs.Given.{level_padded, levels_read}
@@ -35,10 +35,6 @@ granting h R i p t l level e =
     ∙ sym e
 
 module _ (h : Header) (R : List ℕ) (c : Command) (register : 0 ≡ register_refusal h R) where
-  -- a register that is not refused can be read
-  pub can_be_read : readable h R ≡ true
-  can_be_read = let ready = register_ready h R (sym register) in both ready.headed ready.whole
-
   module _ {act : Act} (number : act_number act ≡ c.act) (form : 0 ≡ form_refusal h c) {a : ℕ} where
     -- where no refusal by the form applies, those of grants decide on a grant
     pub grant_decides : act ≡ Grant → a ≡ grant_refusal h R c → a ≡ refusal h R c

@@ -22,7 +22,11 @@ fn well_formed(command: Command) -> Result<Act, Refusal>
         Act::Grant => cells::is_code(command.perm),
         _ => command.perm == 0,
     };
-    if allowed { Ok(act) } else { Err(Refusal::NoCommand) }
+    if allowed {
+        Ok(act)
+    } else {
+        Err(Refusal::NoCommand)
+    }
 }
 
 // Whether both offices are in range.

@@ -1,18 +1,20 @@
 -- Answers by refusals: no refusal's number is 0, and no two have the same, so an answer's number is that of one answer.
-use Rattle.std.specs.Prelude.{ℕ, ◌<◌, ◌≡◌, ◌≢◌, List, [], ◌∷◌, get_or, IfOk}
+use Rattle.std.specs.Prelude.{ℕ, true, ◌<◌, ◌≡◌, ◌≢◌, List, [], ◌∷◌, get_or, IfOk}
 use Rattle.std.specs.declared.result.Result.{Result}
 use Rattle.std.specs.declared.result.Result.TheVariants.{Ok, Err}
 use mathlib.Core.Path.{refl, sym, ap, ◌∙◌}
 use native.Mathlib.Omega.{arith}
+use Rattle.rights.specs.declared.Header.{Header}
 use Rattle.rights.specs.declared.Refusal.{Refusal}
 use Rattle.rights.specs.declared.Refusal.TheVariants.{NoHeader, WrongLength, Unsound, NoCommand, OtherLayer, NoOffice, Barred, NotEntitled, Standing, EmptyCell, ShortChain, NotHeld, BadText, LittleRoom, LongInput, LongRun}
 use Rattle.rights.specs.Refusal.{number, answer_of}
 use Rattle.rights.specs.declared.Act.{Act}
 use Rattle.rights.specs.declared.Act.TheVariants.{Grant, WLD, WGD, SLD, SGD}
 use Rattle.rights.specs.Act.{act_number}
-use Rattle.rights.specs.Sound.{first_of, unless}
+use Rattle.rights.specs.Sound.{first_of, unless, readable, register_refusal}
 use Rattle.theory.proofs.Once.{Once}
-use Rattle.theory.proofs.Refusals.{first_applies, first_passed}
+use Rattle.theory.proofs.Refusals.{first_applies, first_passed, register_ready}
+use Rattle.theory.proofs.Tests.{both}
 
 -- the refusal of a number
 unfoldable refusal_at : ℕ → Refusal
@@ -74,6 +76,10 @@ refused_first r b e = sym (ap (λ k. first_of k b) (sym e) ∙ first_applies (nu
 -- where the first judgement passes, the second decides
 pub passed_first : {a : ℕ} (b : ℕ) → 0 ≡ a → b ≡ first_of a b
 passed_first {a} b e = sym (first_passed a b (sym e))
+
+-- a register that is not refused can be read
+pub passed_readable : (h : Header) (R : List ℕ) → 0 ≡ register_refusal h R → readable h R ≡ true
+passed_readable h R e = let ready = register_ready h R (sym e) in both ready.headed ready.whole
 
 -- a judgement by a number has no second outcome where what it gives at Ok has none
 pub judged_once : {A : Type 0} (k : ℕ) {given : A → Type 0} → Once given → Once (λ (r : Result A Refusal). (answer_of r ≡ k) × IfOk r given)

@@ -1,21 +1,19 @@
--- `questions::first_into` meets its contract. The loop's invariant: there is no such link to an office before y. The measure is
--- what is left of n. Assumes nothing.
-use native.Mathlib.Omega.{arith}
-use mathlib.Core.Path.{refl, sym, ◌∙◌}
-use borrow.Author.Count.{below_none, below_more}
-use Rattle.questions.proofs.First.{first_found, first_absent}
+-- `questions::first_into` meets its contract: each office is asked.
+use Rattle.std.proofs.Common.{rules, tests, refl, arith}
+use mathlib.Core.Path.{◌∙◌}
+use Rattle.std.proofs.lemmas.Iterator.{YieldsList-from_range, serves_from_Range}
+use Rattle.rights.specs.Question.{link_into}
+use Rattle.theory.proofs.Range.{first_over}
+use Rattle.questions.proofs.Reading.{few}
 use Rattle.questions.proofs.first_into.Goals as goal
 
-pub loop-y-init : goal.loop-y-init
-loop-y-init c = (refl, omega arith, below_none _)
-
-pub returns-then-link_into : goal.returns-then-link_into
-returns-then-link_into c =
-    first_found _ _ c.loop-y.y c.loop-y-test.true c.loop-y.invariant.2 (sym c.link_into.ensures ∙ c.if-link_into.true)
-
-pub loop-y-preserved : goal.loop-y-preserved
-loop-y-preserved c =
-    (refl, omega arith, below_more _ _ c.loop-y.invariant.2 (sym c.link_into.ensures ∙ c.if-link_into.false))
+pub find-requires-clause-callable : goal.find-requires-clause-callable
+find-requires-clause-callable c = serves_from_Range (λ x q k. search (rules, tests)) (λ x low below. omega (arith, few c.args.register.now))
 
 pub returns : goal.returns
-returns c = first_absent _ _ (λ k l. c.loop-y.invariant.2 k (omega arith))
+returns c =
+    let r = c.args.register.now in
+    c.unwrap_or.ensures
+    ∙ first_over r.header.n (link_into r.header r.cells.now c.args.perm c.args.set.now c.args.x) _ _ _ c.find.ensures.ran
+    (YieldsList-from_range 0 r.header.n r.header.n refl (omega arith))
+    (λ x b q k. search (rules, tests))

@@ -4,8 +4,8 @@ use mathlib.Core.Path.{sym, ◌∙◌}
 use Rattle.rights.specs.Refusal.{number, answer_of}
 use Rattle.rights.specs.Command.{refusal}
 use Rattle.theory.proofs.Refusals.{form_passed}
-use Rattle.theory.proofs.Refusal.{refused_first, passed_first}
-use Rattle.refusals.proofs.Refusals.{can_be_read, grant_decides, deletion_decides}
+use Rattle.theory.proofs.Refusal.{refused_first, passed_first, passed_readable}
+use Rattle.refusals.proofs.Refusals.{grant_decides, deletion_decides}
 use Rattle.refusals.proofs.refusal.Goals as goal
 
 pub returns-in_err-register_refusal-clause-answer : goal.returns-in_err-register_refusal-clause-answer
@@ -21,7 +21,7 @@ returns-in_err-act-clause-answer c =
     same ∙ (refused_first _ _ c.in_err-act.ensures.answer ∙ passed_first _ c.in_ok-register_refusal.ensures)
 
 pub invariant_of-register : goal.invariant_of-register
-invariant_of-register c = record { is_readable = can_be_read _ _ c.args.command c.in_ok-register_refusal.ensures }
+invariant_of-register c = record { is_readable = passed_readable _ _ c.in_ok-register_refusal.ensures }
 
 pub grant_refusal-requires : goal.grant_refusal-requires
 grant_refusal-requires c = (form_passed _ _ (sym c.in_ok-act.ensures.answer)).by
@@ -33,7 +33,7 @@ returns-in_err-grant_refusal-in-Grant-clause-answer c =
     same ∙ grant_decides _ _ _ c.in_ok-register_refusal.ensures form.act form.answer c.in-Grant.is c.in_err-grant_refusal-in-Grant.ensures
 
 pub invariant_of-register-in_default : goal.invariant_of-register-in_default
-invariant_of-register-in_default c = record { is_readable = can_be_read _ _ c.args.command c.in_ok-register_refusal.ensures }
+invariant_of-register-in_default c = record { is_readable = passed_readable _ _ c.in_ok-register_refusal.ensures }
 
 pub returns-in_err-deletion_refusal-in_default-clause-answer : goal.returns-in_err-deletion_refusal-in_default-clause-answer
 returns-in_err-deletion_refusal-in_default-clause-answer c =

@@ -78,3 +78,9 @@ module _ (h : Header) (R : List ℕ) (j perm : ℕ) (buffer : List ℕ) where
             ≡ cond (eqb (cond held 0 12) 0) (shown buffer (picked_chain h R (decoded perm) j)) (not_shown buffer (cond held 0 12))
         go true = refl
         go false = refl
+
+-- what the two ways of the search are proved by
+pub ruleset searching = (searched-none, searched_some)
+
+-- what the three ways of the question are proved by
+pub ruleset answering = (answered-register, answered-form, answered-searched)

@@ -52,6 +52,7 @@ fn first_into(register: &Register, perm: Permission, set: &[bool; 128], x: u16) 
 }
 
 // The offices with a link into the set: one link nearer SOA.
+#[tactic(auto, using(registers::proofs::Bounds::readable_high, levels::proofs::Padded::filling, crate::proofs::Sets::leads_first), unfolding(rights::specs::Question::nearer, crate::proofs::Sets::leads))]
 fn nearer(register: &Register, perm: Permission, set: &[bool; 128]) -> [bool; 128]
     ensures { result ≡ padded false (nearer_soa register.now.header register.now.cells.now perm set.now) }
 {
@@ -64,6 +65,7 @@ fn nearer(register: &Register, perm: Permission, set: &[bool; 128]) -> [bool; 12
 }
 
 // The set of one office.
+#[tactic(auto, using(registers::proofs::Bounds::readable_high, crate::proofs::One::single_marks))]
 fn single(register: &Register, office: Office) -> [bool; 128]
     requires { office.0 < register.now.header.n }
     ensures { result ≡ padded false (set_of_one register.now.header office.0) }
@@ -75,6 +77,7 @@ fn single(register: &Register, office: Office) -> [bool; 128]
 
 // The fewest links of a chain from SOA into the set, the last read as the permission, where there is one: a chain names no office
 // twice, so it has fewer links than there are offices.
+#[tactic(auto, using(registers::proofs::Bounds::readable_high, registers::proofs::Bounds::readable_inside))]
 fn fewest(register: &Register, perm: Permission, set: &[bool; 128]) -> Option<u16>
     ensures { MatchOption result (register.now.header.n ≤ fewest_into register.now.header register.now.cells.now perm set.now) (λ links. (links < register.now.header.n) × (links ≡ fewest_into register.now.header register.now.cells.now perm set.now)) }
 {
@@ -100,6 +103,7 @@ fn put(chain: &mut [u8], at: u16, office: u16)
 
 // Writes the smallest chain of so many links from SOA into the set, and returns its last office. The chain to the set one link
 // nearer SOA, a call of its own, comes first, and its last office decides which office of this set is taken.
+#[tactic(auto, using(registers::proofs::Bounds::readable_high, registers::proofs::Bounds::readable_inside))]
 fn write(
     register: &Register,
     perm: Permission,
@@ -124,6 +128,7 @@ fn write(
 }
 
 // Searches for the chain and writes it, where none of the refusals but 12 applies.
+#[tactic(auto, using(registers::proofs::Bounds::readable_high, registers::proofs::Bounds::readable_inside, crate::proofs::Answered::searching))]
 fn search(
     register: &Register,
     office: Office,
@@ -159,6 +164,7 @@ fn form_refusal(header: Header, office: Office, perm: u8, room: usize) -> Result
 }
 
 // The holding question: of how many offices the chain is, or the first refusal that applies.
+#[tactic(auto, using(theory::proofs::Refusal::passed_readable, crate::proofs::Refusals::formed, crate::proofs::Answered::answering))]
 fn asked(
     cells: &[u8],
     header: Header,

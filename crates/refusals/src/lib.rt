@@ -56,7 +56,7 @@ fn form_refusal(header: Header, command: Command) -> Result<Act, Refusal>
 }
 
 // Refusals 8 and 9, for grants: the grantor's level tells what it may grant.
-#[tactic(auto, using(crate::proofs::Refusals::granting), unfolding(rights::specs::Command::grant_refusal, rights::specs::Sound::first_of, rights::specs::Sound::unless))]
+#[tactic(auto, using(registers::proofs::Bounds::readable_high, crate::proofs::Refusals::granting), unfolding(rights::specs::Command::grant_refusal, rights::specs::Sound::first_of, rights::specs::Sound::unless))]
 fn grant_refusal(register: &Register, command: Command) -> Result<(), Refusal>
     requires { command.by.0 < register.now.header.n }
     ensures { answer_of result ≡ grant_refusal register.now.header register.now.cells.now command }

@@ -10,9 +10,6 @@ returns-then-links-eq0 t c =
     let both = written-first _ _ _ _ _ _ _ c.if-links-eq0.true (omega (arith, c)) c.put.ensures in
     record { last = both.0; whole = both.1 }
 
-pub put-requires : goal.put-requires
-put-requires t c = (omega (arith, c), omega (arith, few c.args.register.now, soa_inside c.args.register.now))
-
 pub put-requires-2 : goal.put-requires-2
 put-requires-2 t c =
     (omega (arith, c.write-before.auto.chain, c), omega (arith, first_most _ _ _ c.first_into-office.ensures, few c.args.register.now))

@@ -15,9 +15,6 @@ pub loop-links-init : goal.loop-links-init
 unfolding reading_at links_away
 loop-links-init c = record { reading = refl; near = λ y. refl; before = below_none _ }
 
-pub bounds-near-register : goal.bounds-near-register
-bounds-near-register c = omega (arith, few c.args.register.now, soa_inside c.args.register.now)
-
 pub returns-then-near-register : goal.returns-then-near-register
 unfolding is_in
 returns-then-near-register c =

@@ -4,6 +4,7 @@ use super::registers::Register;
 use super::rights::{Header, Office, Permission};
 use super::{carrying, levels};
 
+#[derive(Debug, PartialEq, Eq)]
 struct Levelled<'a> {
     register: Register<'a>,
     levels: [u8; 128],
@@ -29,6 +30,7 @@ impl<'a> Levelled<'a> {
     }
 }
 
+#[derive(Debug, PartialEq, Eq)]
 struct Change<'a> {
     before: Levelled<'a>,
     after: Levelled<'a>,

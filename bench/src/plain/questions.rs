@@ -1,7 +1,8 @@
 //! The functions of `crates/questions/src/lib.rt`.
 
-use super::rights::{Header, Office};
-use super::{carrying, cells, registers, sound};
+use super::registers::Register;
+use super::rights::{Header, Office, Permission, Refusal};
+use super::{carrying, cells, sound};
 
 #[repr(C)]
 #[derive(Clone, Copy, Debug, PartialEq, Eq)]
@@ -10,64 +11,50 @@ pub struct Held {
     pub offices: u8,
 }
 
-fn passing_on(perm: u8) -> u8 {
+fn passing_on(perm: Permission) -> Permission {
     match perm {
-        2 | 8 => 8,
-        _ => 4,
+        Permission::TT | Permission::FT => Permission::TT,
+        Permission::TF | Permission::FF => Permission::TF,
     }
 }
 
-fn link_into(cells: &[u8], header: Header, perm: u8, set: &[bool; 128], x: u16, y: u16) -> bool {
-    if set[y as usize] {
-        return carrying::carries(registers::cell(cells, header, Office(x), Office(y)), perm);
-    }
-    false
+fn link_into(register: &Register, perm: Permission, set: &[bool; 128], x: u16, y: u16) -> bool {
+    set[y as usize] && carrying::carries_as(register.cell(Office(x), Office(y)), perm)
 }
 
-fn first_into(cells: &[u8], header: Header, perm: u8, set: &[bool; 128], x: u16) -> u16 {
-    let n = header.n;
-    let mut y = 0;
-    while y < n {
-        if link_into(cells, header, perm, set, x, y) {
-            return y;
-        }
-        y += 1;
-    }
-    n
+fn first_into(register: &Register, perm: Permission, set: &[bool; 128], x: u16) -> u16 {
+    let n = register.header.n;
+    (0..n)
+        .find(|&y| link_into(register, perm, set, x, y))
+        .unwrap_or(n)
 }
 
-fn nearer(cells: &[u8], header: Header, perm: u8, set: &[bool; 128]) -> [bool; 128] {
-    let n = header.n;
+fn nearer(register: &Register, perm: Permission, set: &[bool; 128]) -> [bool; 128] {
+    let n = register.header.n;
     let mut near = [false; 128];
-    let mut x = 0;
-    while x < n {
-        near[x as usize] = first_into(cells, header, perm, set, x) < n;
-        x += 1;
+    for x in 0..n {
+        near[x as usize] = first_into(register, perm, set, x) < n;
     }
     near
 }
 
-fn single(header: Header, office: Office) -> [bool; 128] {
+fn single(register: &Register, office: Office) -> [bool; 128] {
     let mut set = [false; 128];
     set[office.0 as usize] = true;
     set
 }
 
-fn fewest(cells: &[u8], header: Header, perm: u8, set: &[bool; 128]) -> u16 {
-    let n = header.n;
-    let soa = header.soa.0 as usize;
+fn fewest(register: &Register, perm: Permission, set: &[bool; 128]) -> Option<u16> {
     let mut near = *set;
     let mut reading = perm;
-    let mut links = 0;
-    while links <= n {
-        if near[soa] {
-            return links;
+    for links in 0..register.header.n {
+        if near[register.header.soa.0 as usize] {
+            return Some(links);
         }
-        near = nearer(cells, header, reading, &near);
+        near = nearer(register, reading, &near);
         reading = passing_on(perm);
-        links += 1;
     }
-    links
+    None
 }
 
 fn put(chain: &mut [u8], at: u16, office: u16) {
@@ -75,70 +62,70 @@ fn put(chain: &mut [u8], at: u16, office: u16) {
 }
 
 fn write(
-    cells: &[u8],
-    header: Header,
-    perm: u8,
+    register: &Register,
+    perm: Permission,
     links: u16,
     set: &[bool; 128],
     chain: &mut [u8],
 ) -> u16 {
     if links == 0 {
-        let soa = header.soa.0;
+        let soa = register.header.soa.0;
         put(chain, links, soa);
         return soa;
     }
-    let near = nearer(cells, header, perm, set);
-    let before = write(cells, header, passing_on(perm), links - 1, &near, chain);
-    let office = first_into(cells, header, perm, set, before);
+    let near = nearer(register, perm, set);
+    let before = write(register, passing_on(perm), links - 1, &near, chain);
+    let office = first_into(register, perm, set, before);
     put(chain, links, office);
     office
 }
 
-fn search(cells: &[u8], header: Header, office: Office, perm: u8, chain: &mut [u8]) -> Held {
-    let n = header.n;
-    let set = single(header, office);
-    let links = fewest(cells, header, perm, &set);
-    if n <= links {
-        return Held {
-            answer: 12,
-            offices: 0,
-        };
-    }
-    write(cells, header, perm, links, &set, chain);
-    Held {
-        answer: 0,
-        offices: links as u8 + 1,
-    }
+fn search(
+    register: &Register,
+    office: Office,
+    perm: Permission,
+    chain: &mut [u8],
+) -> Result<u8, Refusal> {
+    let set = single(register, office);
+    let Some(links) = fewest(register, perm, &set) else {
+        return Err(Refusal::NotHeld);
+    };
+    write(register, perm, links, &set, chain);
+    Ok(links as u8 + 1)
 }
 
-fn form_refusal(header: Header, office: Office, perm: u8, room: usize) -> u8 {
-    let n = header.n;
+fn form_refusal(header: Header, office: Office, perm: u8, room: usize) -> Result<(), Refusal> {
     if !cells::is_code(perm) {
-        return 4;
+        return Err(Refusal::NoCommand);
     }
-    if n <= office.0 {
-        return 6;
+    if header.n <= office.0 {
+        return Err(Refusal::NoOffice);
     }
-    if room < n as usize {
-        return 11;
+    if room < header.n as usize {
+        return Err(Refusal::ShortChain);
     }
-    0
+    Ok(())
+}
+
+fn asked(
+    cells: &[u8],
+    header: Header,
+    office: Office,
+    perm: u8,
+    chain: &mut [u8],
+) -> Result<u8, Refusal> {
+    sound::register_refusal(cells, header)?;
+    form_refusal(header, office, perm, chain.len())?;
+    let register = Register { cells, header };
+    search(&register, office, Permission::decoded(perm), chain)
 }
 
 pub fn holding(cells: &[u8], header: Header, office: Office, perm: u8, chain: &mut [u8]) -> Held {
-    let register = sound::register_refusal(cells, header);
-    if register != 0 {
-        return Held {
-            answer: register,
+    match asked(cells, header, office, perm, chain) {
+        Ok(offices) => Held { answer: 0, offices },
+        Err(refusal) => Held {
+            answer: refusal.number(),
             offices: 0,
-        };
+        },
     }
-    let form = form_refusal(header, office, perm, chain.len());
-    if form != 0 {
-        return Held {
-            answer: form,
-            offices: 0,
-        };
-    }
-    search(cells, header, office, perm, chain)
 }

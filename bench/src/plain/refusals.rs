@@ -1,76 +1,66 @@
 //! The functions of `crates/refusals/src/lib.rt`.
 
-use super::rights::{Command, Header, Office};
+use super::registers::Register;
+use super::rights::{Act, Command, Header, Office, Permission, Refusal};
 use super::{carrying, cells, levels, registers, sound};
 
-fn well_formed(command: Command) -> bool {
-    let act = command.act;
-    let perm = command.perm;
-    if act == 0 {
-        return cells::is_code(perm);
+fn well_formed(command: Command) -> Result<Act, Refusal> {
+    let act = Act::try_from(command.act)?;
+    let allowed = match act {
+        Act::Grant => cells::is_code(command.perm),
+        _ => command.perm == 0,
+    };
+    if allowed {
+        Ok(act)
+    } else {
+        Err(Refusal::NoCommand)
     }
-    if act <= 4 {
-        return perm == 0;
-    }
-    false
 }
 
 fn in_range(header: Header, by: Office, to: Office) -> bool {
-    if by.0 < header.n {
-        return to.0 < header.n;
-    }
-    false
+    by.0 < header.n && to.0 < header.n
 }
 
-fn form_refusal(header: Header, command: Command) -> u8 {
-    if !well_formed(command) {
-        return 4;
+fn form_refusal(header: Header, command: Command) -> Result<Act, Refusal> {
+    let act = well_formed(command)?;
+    if command.layer != header.layer {
+        return Err(Refusal::OtherLayer);
     }
-    if command.layer.0 != header.layer.0 {
-        return 5;
+    if !in_range(header, command.by, command.to) {
+        return Err(Refusal::NoOffice);
     }
-    let by = command.by;
-    let to = command.to;
-    if !in_range(header, by, to) {
-        return 6;
+    if registers::barred(header, command.by, command.to) {
+        return Err(Refusal::Barred);
     }
-    if registers::barred(header, by, to) {
-        return 7;
-    }
-    0
+    Ok(act)
 }
 
-fn grant_refusal(cells: &[u8], header: Header, command: Command) -> u8 {
-    let by = command.by;
-    let perm = command.perm;
-    let levels = levels::levels(cells, header);
-    if !carrying::enough(perm, levels[by.0 as usize]) {
-        return 8;
+fn grant_refusal(register: &Register, command: Command) -> Result<(), Refusal> {
+    let perm = Permission::decoded(command.perm);
+    let levels = levels::levels(register.cells, register.header);
+    if !carrying::suffices(levels[command.by.0 as usize], perm) {
+        return Err(Refusal::NotEntitled);
     }
-    if cells::has(registers::cell(cells, header, by, command.to), perm) {
-        return 9;
+    if cells::stands(register.cell(command.by, command.to), perm) {
+        return Err(Refusal::Standing);
     }
-    0
+    Ok(())
 }
 
-fn deletion_refusal(cells: &[u8], header: Header, command: Command) -> u8 {
-    if registers::cell(cells, header, command.by, command.to) == 0 {
-        return 10;
+fn deletion_refusal(register: &Register, command: Command) -> Result<(), Refusal> {
+    if register.cell(command.by, command.to) == 0 {
+        return Err(Refusal::EmptyCell);
     }
-    0
+    Ok(())
 }
 
-pub fn refusal(cells: &[u8], header: Header, command: Command) -> u8 {
-    let register = sound::register_refusal(cells, header);
-    if register != 0 {
-        return register;
+pub fn refusal(cells: &[u8], header: Header, command: Command) -> Result<Act, Refusal> {
+    sound::register_refusal(cells, header)?;
+    let act = form_refusal(header, command)?;
+    let register = Register { cells, header };
+    match act {
+        Act::Grant => grant_refusal(&register, command)?,
+        _ => deletion_refusal(&register, command)?,
     }
-    let form = form_refusal(header, command);
-    if form != 0 {
-        return form;
-    }
-    if command.act == 0 {
-        return grant_refusal(cells, header, command);
-    }
-    deletion_refusal(cells, header, command)
+    Ok(act)
 }

@@ -1,7 +1,7 @@
 //! The functions of `crates/runs/src/lib.rt`.
 
 use super::commands;
-use super::rights::{Command, Entry, Header, Ran, Tally};
+use super::rights::{Command, Entry, Header, Ran, Refusal, Tally};
 
 fn take_in(cells: &mut [u8], header: Header, command: Command, tally: Tally) -> Ran {
     let done = commands::command(cells, header, command);
@@ -12,20 +12,17 @@ fn take_in(cells: &mut [u8], header: Header, command: Command, tally: Tally) -> 
 }
 
 pub fn run(cells: &mut [u8], header: Header, entries: &mut [Entry]) -> Ran {
-    let mut tally = Tally {
-        removed: 0,
-        added: 0,
-    };
+    let mut tally = Tally::default();
     if 256 < entries.len() {
-        return Ran { answer: 16, tally };
+        return Ran {
+            answer: Refusal::LongRun.number(),
+            tally,
+        };
     }
-    let mut k: usize = 0;
-    while k < entries.len() {
-        let e = &mut entries[k];
+    for e in entries.iter_mut() {
         let taken = take_in(cells, header, e.command, tally);
         e.answer = taken.answer;
         tally = taken.tally;
-        k += 1;
     }
     Ran { answer: 0, tally }
 }

@@ -22,9 +22,10 @@ impl Levels for Marked {
 
     #[tactic(auto, using(crate::proofs::Turns::turned_start, crate::proofs::Turns::turned_set, crate::proofs::Turns::turned_over), unfolding(rights::specs::Restriction::columns_to, crate::specs::Marked::is_marked, rights::specs::Level::level_in, rights::specs::Cell::restrict))]
     fn restrict(&self, row: &mut [u8], i: usize) {
+        let level = self.levels.get(i).copied().unwrap_or(0);
         for (y, cell) in row.iter_mut().enumerate() {
-            if self.columns[y] != 0 {
-                *cell = carrying::restrict(*cell, self.levels[i]);
+            if self.columns.get(y).copied().unwrap_or(0) != 0 {
+                *cell = carrying::restrict(*cell, level);
             }
         }
     }

@@ -11,12 +11,11 @@ use rights::{Header, Office};
 
 // The levels that the cells of a register go to, and how a row goes there.
 pub trait Levels {
-    // the level for the cell of a grantor and a subject
+    // The level for the cell of a grantor and a subject.
     ghost level: { Self → ℕ → ℕ → ℕ };
 
     // The row of grantor i, wherever it lies.
     fn restrict(&self, row: &mut [u8], i: usize)
-        requires { (i < 128) × (length row.old ≤ 128) }
         ensures { row.new ≡ to_levels (level self.now i) row.old };
 }
 
@@ -26,7 +25,7 @@ impl Levels for [u8; 128] {
 
     #[tactic(auto, using(crate::proofs::Rows::to_one_level), unfolding(rights::specs::Restriction::rows_to, rights::specs::Level::level_in))]
     fn restrict(&self, row: &mut [u8], i: usize) {
-        restrict_row(row, self[i]);
+        restrict_row(row, self.get(i).copied().unwrap_or(0));
     }
 }
 

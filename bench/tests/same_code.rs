@@ -57,6 +57,9 @@ fn words(source: &str) -> String {
         in_import = (in_import || line.starts_with("use ")) && !line.ends_with(';');
         if !left_out {
             kept.extend(line.chars().filter(|c| !c.is_whitespace()));
+        } else if line.starts_with("ensures ") && line.ends_with(';') {
+            // The signature of a trait's method ends behind its contract.
+            kept.push(';');
         }
     }
     for bracket in [")", "]", "}"] {

@@ -7,6 +7,27 @@ pub fn copied(cells: &[u8]) -> [u8; 16384] {
     copy
 }
 
+#[derive(Debug, PartialEq, Eq)]
+pub struct Kept {
+    bytes: [u8; 16384],
+    length: usize,
+}
+
+impl Model for Kept {}
+
+impl Kept {
+    pub fn of(cells: &[u8]) -> Kept {
+        Kept {
+            bytes: copied(cells),
+            length: cells.len().min(16384),
+        }
+    }
+
+    pub fn cells(&self) -> &[u8] {
+        &self.bytes[..self.length]
+    }
+}
+
 pub fn clear(cells: &mut [u8]) {
     cells.fill(0);
 }

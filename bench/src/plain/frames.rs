@@ -1,17 +1,19 @@
 //! The functions of `crates/frames/src/lib.rt`.
 
-use super::printing::Written;
-use super::rights::Header;
+use super::printing::{Line, Written};
+use super::rights::{Header, Refusal};
 use super::{printing, registers};
 
 pub fn write_header(header: Header, room: &mut [u8]) -> Written {
     if !registers::headed(header) {
-        return Written { answer: 1, size: 0 };
+        return Written::from(Err(Refusal::NoHeader));
     }
-    let n = header.n as u32;
-    let soa = header.soa.0 as u32;
-    let layer = header.layer.0 as u32;
-    printing::write_three(b"n=", n, b"soa=", soa, b"layer=", layer, room)
+    let lines = [
+        Line(b"n=", header.n as u32),
+        Line(b"soa=", header.soa.0 as u32),
+        Line(b"layer=", header.layer.0 as u32),
+    ];
+    printing::write_lines(&lines, room)
 }
 
 pub fn write_end(room: &mut [u8]) -> Written {

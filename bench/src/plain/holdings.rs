@@ -1,103 +1,62 @@
 //! The functions of `crates/holdings/src/lib.rt`.
 
-use super::rights::{Header, Office};
-use super::{carrying, levels, registers};
+use super::registers::Register;
+use super::rights::{Header, Office, Permission};
+use super::{carrying, levels};
 
-fn passes_on(cells: &[u8], header: Header, levels: &[u8; 128], perm: u8, y: u16, x: u16) -> bool {
-    if carrying::enough(perm, levels[x as usize]) {
-        return carrying::carries(registers::cell(cells, header, Office(x), Office(y)), perm);
-    }
-    false
+#[derive(Debug, PartialEq, Eq)]
+struct Levelled<'a> {
+    register: Register<'a>,
+    levels: [u8; 128],
 }
 
-fn holds_by(cells: &[u8], header: Header, levels: &[u8; 128], perm: u8, y: u16) -> bool {
-    if y == header.soa.0 {
-        return true;
+impl<'a> Levelled<'a> {
+    fn of(cells: &'a [u8], header: Header) -> Option<Levelled<'a>> {
+        let register = Register::of(cells, header)?;
+        Some(Levelled {
+            register,
+            levels: levels::levels(cells, header),
+        })
     }
-    let n = header.n;
-    let mut x = 0;
-    while x < n {
-        if passes_on(cells, header, levels, perm, y, x) {
-            return true;
+
+    fn passes_on(&self, perm: Permission, y: u16, x: u16) -> bool {
+        carrying::suffices(self.levels[x as usize], perm)
+            && carrying::carries_as(self.register.cell(Office(x), Office(y)), perm)
+    }
+
+    fn holds(&self, perm: Permission, y: u16) -> bool {
+        y == self.register.header.soa.0
+            || (0..self.register.header.n).any(|x| self.passes_on(perm, y, x))
+    }
+}
+
+#[derive(Debug, PartialEq, Eq)]
+struct Change<'a> {
+    before: Levelled<'a>,
+    after: Levelled<'a>,
+}
+
+impl<'a> Change<'a> {
+    fn loses_one(&self, y: u16, perm: Permission) -> bool {
+        self.before.holds(perm, y) && !self.after.holds(perm, y)
+    }
+
+    fn loses(&self, y: u16) -> bool {
+        Permission::ALL.iter().any(|perm| self.loses_one(y, *perm))
+    }
+
+    fn losers(&self) -> [u8; 128] {
+        let mut marks = [0; 128];
+        for y in 0..self.before.register.header.n {
+            marks[y as usize] = u8::from(self.loses(y));
         }
-        x += 1;
+        marks
     }
-    false
-}
-
-fn loses_one(
-    before: &[u8],
-    before_levels: &[u8; 128],
-    after: &[u8],
-    after_levels: &[u8; 128],
-    header: Header,
-    perm: u8,
-    y: u16,
-) -> bool {
-    if holds_by(before, header, before_levels, perm, y) {
-        return !holds_by(after, header, after_levels, perm, y);
-    }
-    false
-}
-
-fn loses(
-    before: &[u8],
-    before_levels: &[u8; 128],
-    after: &[u8],
-    after_levels: &[u8; 128],
-    header: Header,
-    y: u16,
-) -> bool {
-    if loses_one(before, before_levels, after, after_levels, header, 8, y) {
-        return true;
-    }
-    if loses_one(before, before_levels, after, after_levels, header, 4, y) {
-        return true;
-    }
-    if loses_one(before, before_levels, after, after_levels, header, 2, y) {
-        return true;
-    }
-    loses_one(before, before_levels, after, after_levels, header, 1, y)
-}
-
-fn loser_mark(
-    before: &[u8],
-    before_levels: &[u8; 128],
-    after: &[u8],
-    after_levels: &[u8; 128],
-    header: Header,
-    y: u16,
-) -> u8 {
-    if loses(before, before_levels, after, after_levels, header, y) {
-        return 1;
-    }
-    0
-}
-
-fn loser_marks(
-    before: &[u8],
-    before_levels: &[u8; 128],
-    after: &[u8],
-    after_levels: &[u8; 128],
-    header: Header,
-) -> [u8; 128] {
-    let n = header.n;
-    let mut marks = [0u8; 128];
-    let mut y = 0;
-    while y < n {
-        marks[y as usize] = loser_mark(before, before_levels, after, after_levels, header, y);
-        y += 1;
-    }
-    marks
 }
 
 pub fn losers(before: &[u8], after: &[u8], header: Header) -> [u8; 128] {
-    if registers::readable(before, header) {
-        if registers::readable(after, header) {
-            let before_levels = levels::levels(before, header);
-            let after_levels = levels::levels(after, header);
-            return loser_marks(before, &before_levels, after, &after_levels, header);
-        }
+    match (Levelled::of(before, header), Levelled::of(after, header)) {
+        (Some(before), Some(after)) => Change { before, after }.losers(),
+        _ => [0; 128],
     }
-    [0u8; 128]
 }

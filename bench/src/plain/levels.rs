@@ -1,128 +1,88 @@
 //! The functions of `crates/levels/src/lib.rt`.
 
-use super::rights::{Header, Office};
-use super::{carrying, registers};
+use super::carrying;
+use super::registers::Register;
+use super::rights::{Header, Office, Permission};
 
-fn links(cells: &[u8], header: Header, perm: u8, marks: &[bool; 128], x: u16, y: u16) -> bool {
-    if marks[x as usize] {
-        return carrying::carries(registers::cell(cells, header, Office(x), Office(y)), perm);
-    }
-    false
+fn links(register: &Register, perm: Permission, marks: &[bool; 128], x: u16, y: u16) -> bool {
+    marks[x as usize] && carrying::carries_as(register.cell(Office(x), Office(y)), perm)
 }
 
-fn linked(cells: &[u8], header: Header, perm: u8, marks: &[bool; 128], y: u16) -> bool {
-    let n = header.n;
-    let mut x = 0;
-    while x < n {
-        if links(cells, header, perm, marks, x, y) {
-            return true;
-        }
-        x += 1;
-    }
-    false
+fn linked(register: &Register, perm: Permission, marks: &[bool; 128], y: u16) -> bool {
+    (0..register.header.n).any(|x| links(register, perm, marks, x, y))
 }
 
 fn marked_next(
-    cells: &[u8],
-    header: Header,
+    register: &Register,
     out: u16,
-    perm: u8,
+    perm: Permission,
     marks: &[bool; 128],
     y: u16,
 ) -> bool {
-    if marks[y as usize] {
-        return true;
-    }
-    if y == out {
-        return false;
-    }
-    linked(cells, header, perm, marks, y)
+    marks[y as usize] || y != out && linked(register, perm, marks, y)
 }
 
-fn round(cells: &[u8], header: Header, out: u16, perm: u8, marks: &[bool; 128]) -> [bool; 128] {
-    let n = header.n;
+fn round(register: &Register, out: u16, perm: Permission, marks: &[bool; 128]) -> [bool; 128] {
     let mut next = [false; 128];
-    let mut y = 0;
-    while y < n {
-        next[y as usize] = marked_next(cells, header, out, perm, marks, y);
-        y += 1;
+    for y in 0..register.header.n {
+        next[y as usize] = marked_next(register, out, perm, marks, y);
     }
     next
 }
 
-fn first(header: Header, out: u16) -> [bool; 128] {
+fn first(register: &Register, out: u16) -> [bool; 128] {
+    let soa = register.header.soa.0;
     let mut marks = [false; 128];
-    let soa = header.soa.0;
-    if soa == out {
-        return marks;
-    }
-    marks[soa as usize] = true;
+    marks[soa as usize] = soa != out;
     marks
 }
 
-fn same(a: &[bool; 128], b: &[bool; 128]) -> bool {
-    let mut k = 0;
-    while k < 128 {
-        if a[k] != b[k] {
-            return false;
-        }
-        k += 1;
-    }
-    true
-}
-
-fn reached(cells: &[u8], header: Header, out: u16, perm: u8) -> [bool; 128] {
-    let n = header.n;
-    let mut marks = first(header, out);
-    let mut d = 0;
-    while d < n {
-        let next = round(cells, header, out, perm, &marks);
-        if same(&next, &marks) {
+fn reached(register: &Register, out: u16, perm: Permission) -> [bool; 128] {
+    let mut marks = first(register, out);
+    for _round in 0..register.header.n {
+        let next = round(register, out, perm, &marks);
+        if next == marks {
             return marks;
         }
         marks = next;
-        d += 1;
     }
     marks
 }
 
 fn level_of(whole: bool, part: bool) -> u8 {
     if whole {
-        return 2;
+        2
+    } else if part {
+        1
+    } else {
+        0
     }
-    if part {
-        return 1;
-    }
-    0
 }
 
 fn levels_by(n: u16, whole: &[bool; 128], part: &[bool; 128]) -> [u8; 128] {
-    let mut levels = [0u8; 128];
-    let mut j = 0;
-    while j < n {
-        let k = j as usize;
+    let mut levels = [0; 128];
+    for k in 0..n as usize {
         levels[k] = level_of(whole[k], part[k]);
-        j += 1;
     }
     levels
 }
 
-fn levels_without(cells: &[u8], header: Header, out: u16) -> [u8; 128] {
-    let whole = reached(cells, header, out, 8);
-    let part = reached(cells, header, out, 4);
-    levels_by(header.n, &whole, &part)
+fn levels_without(register: &Register, out: u16) -> [u8; 128] {
+    let whole = reached(register, out, Permission::TT);
+    let part = reached(register, out, Permission::TF);
+    levels_by(register.header.n, &whole, &part)
 }
 
 pub fn levels(cells: &[u8], header: Header) -> [u8; 128] {
-    if registers::readable(cells, header) {
-        return levels_without(cells, header, header.n);
+    match Register::of(cells, header) {
+        Some(register) => levels_without(&register, header.n),
+        None => [0; 128],
     }
-    [0u8; 128]
 }
 
 pub fn independent_levels(cells: &[u8], header: Header, office: Office) -> [u8; 128] {
-    if registers::readable(cells, header) {
-        return levels_without(cells, header, office.0);
+    match Register::of(cells, header) {
+        Some(register) => levels_without(&register, office.0),
+        None => [0; 128],
     }
-    [0u8; 128]
 }

@@ -1,6 +1,7 @@
 //! The functions of `crates/printing/src/lib.rt`.
 
 use super::numbers;
+use super::rights::Refusal;
 
 #[repr(C)]
 #[derive(Clone, Copy, Debug, PartialEq, Eq)]
@@ -9,100 +10,85 @@ pub struct Written {
     pub size: usize,
 }
 
-fn put_byte(room: &mut [u8], at: usize, b: u8) -> usize {
-    room[at] = b;
-    at + 1
-}
-
-fn put_bytes(room: &mut [u8], at: usize, text: &[u8]) -> usize {
-    let mut next = at;
-    let mut k = 0;
-    while k < text.len() {
-        next = put_byte(room, next, text[k]);
-        k += 1;
+impl From<Result<usize, Refusal>> for Written {
+    fn from(outcome: Result<usize, Refusal>) -> Written {
+        match outcome {
+            Ok(size) => Written { answer: 0, size },
+            Err(refusal) => Written {
+                answer: refusal.number(),
+                size: 0,
+            },
+        }
     }
-    next
 }
 
-fn put_number(room: &mut [u8], at: usize, v: u32) -> usize {
-    if v < 10 {
-        return put_byte(room, at, 48 + v as u8);
+#[derive(Clone, Copy, Debug, PartialEq, Eq)]
+pub struct Line<'a>(pub &'a [u8], pub u32);
+
+impl Line<'_> {
+    fn size(&self) -> usize {
+        self.0.len() + numbers::digits(self.1) + 1
     }
-    let next = put_number(room, at, v / 10);
-    put_byte(room, next, 48 + (v % 10) as u8)
 }
 
-fn put_line(room: &mut [u8], at: usize, key: &[u8], v: u32) -> usize {
-    let behind_key = put_bytes(room, at, key);
-    let behind_number = put_number(room, behind_key, v);
-    put_byte(room, behind_number, 10)
+#[derive(Debug, PartialEq, Eq)]
+pub struct Page<'a> {
+    pub room: &'a mut [u8],
+    pub at: usize,
 }
 
-fn line_size(key: &[u8], v: u32) -> usize {
-    key.len() + numbers::digits(v) + 1
+impl Page<'_> {
+    fn put_byte(&mut self, b: u8) {
+        self.room[self.at] = b;
+        self.at += 1;
+    }
+
+    fn put_bytes(&mut self, text: &[u8]) {
+        let end = self.at + text.len();
+        self.room[self.at..end].copy_from_slice(text);
+        self.at = end;
+    }
+
+    fn put_number(&mut self, v: u32) {
+        if 10 <= v {
+            self.put_number(v / 10);
+        }
+        self.put_byte(b'0' + (v % 10) as u8);
+    }
+
+    fn put_line(&mut self, line: &Line) {
+        self.put_bytes(line.0);
+        self.put_number(line.1);
+        self.put_byte(b'\n');
+    }
 }
 
 pub fn write_bytes(text: &[u8], room: &mut [u8]) -> Written {
     if room.len() < text.len() {
-        return Written {
-            answer: 14,
-            size: 0,
-        };
+        return Written::from(Err(Refusal::LittleRoom));
     }
-    let size = put_bytes(room, 0, text);
-    Written { answer: 0, size }
+    let mut page = Page { room, at: 0 };
+    page.put_bytes(text);
+    Written::from(Ok(page.at))
 }
 
-pub fn write_two(a: &[u8], x: u32, b: &[u8], y: u32, room: &mut [u8]) -> Written {
-    let first = line_size(a, x);
-    if room.len() < first {
-        return Written {
-            answer: 14,
-            size: 0,
-        };
+fn left_behind(lines: &[Line], room: usize) -> Option<usize> {
+    let mut left = room;
+    for line in lines {
+        left = left.checked_sub(line.size())?;
     }
-    if room.len() - first < line_size(b, y) {
-        return Written {
-            answer: 14,
-            size: 0,
-        };
-    }
-    let behind_first = put_line(room, 0, a, x);
-    let size = put_line(room, behind_first, b, y);
-    Written { answer: 0, size }
+    Some(left)
 }
 
-pub fn write_three(
-    a: &[u8],
-    x: u32,
-    b: &[u8],
-    y: u32,
-    c: &[u8],
-    z: u32,
-    room: &mut [u8],
-) -> Written {
-    let first = line_size(a, x);
-    if room.len() < first {
-        return Written {
-            answer: 14,
-            size: 0,
-        };
+fn try_lines(lines: &[Line], room: &mut [u8]) -> Result<usize, Refusal> {
+    left_behind(lines, room.len()).ok_or(Refusal::LittleRoom)?;
+    let mut page = Page { room, at: 0 };
+    for line in lines {
+        page.put_line(line);
     }
-    let second = line_size(b, y);
-    if room.len() - first < second {
-        return Written {
-            answer: 14,
-            size: 0,
-        };
-    }
-    if room.len() - first - second < line_size(c, z) {
-        return Written {
-            answer: 14,
-            size: 0,
-        };
-    }
-    let behind_first = put_line(room, 0, a, x);
-    let behind_second = put_line(room, behind_first, b, y);
-    let size = put_line(room, behind_second, c, z);
-    Written { answer: 0, size }
+    Ok(page.at)
+}
+
+pub fn write_lines(lines: &[Line], room: &mut [u8]) -> Written {
+    Written::from(try_lines(lines, room))
 }

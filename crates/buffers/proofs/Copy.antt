@@ -1,20 +1,17 @@
 -- A copy that is made byte by byte into zeros, and a register as the start of its copy. Assumes nothing.
-use Prim.Native.Nat.{ℕ, suc, ◌+◌, ◌-◌, ◌≤◌, ◌<◌, min}
-use native.Mathlib.Nat.{mul-le-mul_left, mul-le-mul_right}
-use native.Mathlib.Numerals.{add-one}
+use Prim.Native.Nat.{ℕ, ◌-◌, ◌≤◌, ◌<◌, min}
 use native.Mathlib.Omega.{arith}
-use mathlib.Core.Path.{◌≡◌, refl, ap, ap₂, sym, ◌∙◌}
+use mathlib.Core.Path.{◌≡◌, refl, ap, ap₂, ◌∙◌}
 use mathlib.Core.Logic.{⊎_elim}
 use mathlib.Core.Bool.{true}
-use mathlib.Core.List.{List, [], ◌∷◌, ◌++◌, append_assoc}
-use lib.ListN.{length, get_or, set, take, drop, replicate, length-append, length-replicate}
-use lib.Seq.{set_at, take-suc, take_all, take_at, take-length, length-take-le}
-use Rattle.std.proofs.lemmas.List.{drop-replicate}
+use mathlib.Core.List.{List, ◌++◌}
+use lib.ListN.{length, take, drop, replicate, length-append, length-replicate}
+use lib.Seq.{take_all, take_at, take-length}
+use Rattle.std.proofs.lemmas.List.{drop-replicate, length-take}
 use Rattle.rights.specs.declared.Header.{Header}
-use Rattle.rights.specs.Sound.{headed, whole, readable}
+use Rattle.rights.specs.Sound.{readable}
 use Rattle.theory.proofs.Below.{below_or_not}
-use Rattle.theory.proofs.Tests.{left_of, right_of}
-use Rattle.theory.proofs.Ready.{headed_high, whole_length}
+use Rattle.theory.proofs.Ready.{few_cells}
 use Rattle.buffers.specs.Copy.{copy_of}
 
 -- as many bytes as there is room for, and the zeros behind them
@@ -41,10 +38,7 @@ copy_start R l =
 
 -- a register has 16,384 bytes at most
 pub few-cells : (h : Header) (R : List ℕ) → readable h R ≡ true → length R ≤ 16384
-few-cells h R t =
-    let few = headed_high h (left_of (headed h) (whole h R) t) in
-    let e = whole_length h R (right_of (headed h) (whole h R) t) in
-    omega (arith, mul-le-mul_left h.n few, mul-le-mul_right 128 few)
+few-cells = few_cells
 
 -- so its copy holds it whole
 pub long_copy : (R : List ℕ) → length R ≤ 16384 → length (copy_of R) ≡ 16384
@@ -53,3 +47,12 @@ long_copy R l = rw (take_all 16384 R l) (length-append R (replicate (16384 - len
   where
     none : ℕ
     none = 0
+
+-- the part of the copy that is kept
+pub copy_kept : (R : List ℕ) (m : ℕ) → m ≡ min (length R) 16384 → take m (copy_of R) ≡ take 16384 R
+unfolding copy_of
+copy_kept R m e = take_at (take 16384 R) (replicate (16384 - length R) 0) m (length-take 16384 R ∙ omega (arith, e))
+
+-- a register is kept whole
+pub kept_whole : (h : Header) (R : List ℕ) → readable h R ≡ true → take 16384 R ≡ R
+kept_whole h R t = take_all 16384 R (few_cells h R t)

@@ -1,8 +1,10 @@
 // The bytes of a register as a whole: copied, and cleared. Each function takes any buffer.
 #![tactic(auto)]
 
-ghost use Rattle.std.specs.Prelude.{◌≡◌, length, replicate};
+ghost use Rattle.std.specs.Prelude.{ℕ, ◌≡◌, ◌≤◌, List, length, replicate, take};
 ghost use Rattle.buffers.specs.Copy.{copy_of};
+
+use std::marker::Model;
 
 // The bytes of a register as it stands, since a deletion has to look back at it. A register has 16,384 bytes at most, so no more are
 // ever copied.
@@ -13,6 +15,41 @@ pub fn copied(cells: &[u8]) -> [u8; 16384]
     let end = cells.len().min(16384);
     copy[..end].copy_from_slice(&cells[..end]);
     copy
+}
+
+// A register as it stood: the copy of it that a deletion looks back at.
+#[derive(Drop)]
+pub struct Kept {
+    bytes: [u8; 16384],
+    length: usize,
+}
+
+impl Model for Kept {
+    ghost Value = { List ℕ };
+
+    ghost view = { λ kept. take kept.length kept.bytes };
+
+    ghost invariant = { λ kept. kept.length ≤ 16384 };
+}
+
+impl Kept {
+    // Keeps the cells of a register, 16,384 at most.
+    #[tactic(auto, using(crate::proofs::Copy::copy_kept))]
+    pub fn of(cells: &[u8]) -> Kept
+        ensures { result ≡ take 16384 cells.now }
+    {
+        Kept {
+            bytes: copied(cells),
+            length: cells.len().min(16384),
+        }
+    }
+
+    // The cells that are kept.
+    pub fn cells(&self) -> &[u8]
+        ensures { result.now ≡ self.now }
+    {
+        &self.bytes[..self.length]
+    }
 }
 
 // Zero in every byte.

@@ -1,3 +1,3 @@
--- What the loops over columns have in common.
-pub mod Marked
+-- What the proofs rest on, and that the contract leaves no choice.
+pub mod Turns
 pub mod Unique

@@ -44,9 +44,9 @@ module _ (h : Header) (R : List ℕ) (i j : ℕ) where
           clash (both (eq-eqb x i same_x) (eq-eqb y j same_y)) q
 
   -- to write the byte of cell i, j is to store into that cell
-  pub stored-set : (v : ℕ) → Whole h R → i < h.n → j < h.n → set R (i * h.n + j) v ≡ stored h R i j v
+  pub stored_set : (v : ℕ) → Whole h R → i < h.n → j < h.n → set R (i * h.n + j) v ≡ stored h R i j v
   unfolding stored
-  stored-set v whole hi hj =
+  stored_set v whole hi hj =
       let rule : ℕ → ℕ → ℕ = λ x y. cond (is_cell i j x y) v (cell h R x y) in
       same-cells h (set R (i * h.n + j) v) (register h rule)
       (length-set R (i * h.n + j) v ∙ whole.cells)
@@ -73,9 +73,9 @@ module _ (h : Header) (R : List ℕ) (i j : ℕ) where
       at x y true q = here x y q (λ same_x same_y. rw (q, same_x, same_y) e)
       at x y false q = rw q
 
-  emptied-stored : emptied h R i j ≡ stored h R i j 0
+  pub emptied_stored : emptied h R i j ≡ stored h R i j 0
   unfolding emptied restricted empty_where stored restrict
-  emptied-stored =
+  emptied_stored =
       register_ext h (λ x y. restrict (cell h R x y) (empty_where (is_cell i j) x y)) (λ x y. cond (is_cell i j x y) 0 (cell h R x y))
       (λ x y hx hy. at x y (is_cell i j x y) refl)
     where
@@ -84,7 +84,7 @@ module _ (h : Header) (R : List ℕ) (i j : ℕ) where
       at x y true q = rw q
       at x y false q = rw q
 
-  granted_stored : (p : Permission) → granted h R i j p ≡ stored h R i j (union (cell h R i j) (code p))
+  pub granted_stored : (p : Permission) → granted h R i j p ≡ stored h R i j (union (cell h R i j) (code p))
   unfolding granted granted_cell stored
   granted_stored p =
       register_ext h (λ x y. cond (is_cell i j x y) (union (cell h R x y) (code p)) (cell h R x y))
@@ -96,13 +96,3 @@ module _ (h : Header) (R : List ℕ) (i j : ℕ) where
           ≡ cond (is_cell i j x y) (union (cell h R i j) (code p)) (cell h R x y)
       at x y true q = here x y q (λ same_x same_y. rw (q, same_x, same_y))
       at x y false q = rw q
-
-  -- what the code makes is what the definition has
-  pub emptied-by : {T : List ℕ} → T ≡ stored h R i j 0 → T ≡ emptied h R i j
-  emptied-by e = cc emptied-stored
-
-  pub granted-by :
-      (p : Permission) {T : List ℕ} {c r u : ℕ} →
-      c ≡ cell h R i j → r ≡ code p → u ≡ union c r → T ≡ stored h R i j u →
-      T ≡ granted h R i j p
-  granted-by p e₁ e₂ e₃ e₄ = cc (granted_stored p)

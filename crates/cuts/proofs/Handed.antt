@@ -5,9 +5,9 @@ use native.Mathlib.Omega.{arith}
 use mathlib.Core.Path.{◌≡◌, refl, ap, sym, ◌∙◌}
 use mathlib.Core.Bool.{Bool, true, false, cond, and-false}
 use mathlib.Core.List.{List}
-use lib.ListN.{length, get_or-eq_default}
+use lib.ListN.{get_or-eq_default}
 use lib.Dec.{eqb, ltb}
-use borrow.Author.Tests.{eqb-true, eq-eqb, ne_eqb, lt-ltb, le-ltb, ltb-true, ltb-false}
+use borrow.Author.Tests.{eqb-true, eq-eqb, lt-ltb, le-ltb, ltb-true, ltb-false}
 use Rattle.rights.specs.declared.Header.{Header}
 use Rattle.rights.specs.Cell.{union, without}
 use Rattle.rights.specs.Register.{cell, register}
@@ -79,49 +79,30 @@ module _ (h : Header) (R N : List ℕ) (whole : Whole h N) (i j : ℕ) where
       register_ext h (λ x y. cond (is_cell i k x y) (handed_cell h R (so_far k) i j i k) (cell h (so_far k) x y))
       (handed_before h R N i j (k + 1)) (λ x y hx hy. added k x y hk hx hy (eqb x i) refl (eqb y k) refl)
 
--- Where the loop over the columns stands before column k: S is what it has made of N.
-pub record HandedTo (h : Header) (R N : List ℕ) (i j : ℕ) (S : List ℕ) (k : ℕ) : Type 0 where
-  pub at : k ≤ h.n
-  pub long : length S ≡ length N
-  pub made : S ≡ register h (handed_before h R N i j k)
-
 module _ (h : Header) (R N : List ℕ) (whole : Whole h N) (i j : ℕ) where
-  pub hand_start : HandedTo h R N i j N 0
+  -- before the first turn nothing is handed over
+  pub handed_start : register h (handed_before h R N i j 0) ≡ N
   unfolding handed_before
-  hand_start =
-      record {
-        at = zero-le;
-        long = refl;
-        made = sym (register_ext h (handed_before h R N i j 0) (cell h N) (λ x y hx hy. rw (le-ltb y 0 zero-le))
-            ∙ register_of h N whole.cells);
-      }
+  handed_start = register_ext h (handed_before h R N i j 0) (cell h N) (λ x y hx hy. rw (le-ltb y 0 zero-le)) ∙ register_of h N whole.cells
 
-  -- the register is still whole
-  pub hand_whole : (S : List ℕ) (k : ℕ) → HandedTo h R N i j S k → Whole h S
-  hand_whole S k done = record { cells = done.long ∙ whole.cells; few = whole.few }
+  -- a turn
+  pub handed_next :
+      {S T : List ℕ} (k : ℕ) → k < h.n → S ≡ register h (handed_before h R N i j k) → T ≡ handed_at h R S i j k →
+      T ≡ register h (handed_before h R N i j (k + 1))
+  handed_next k l s t = t ∙ ap (λ (S : List ℕ). handed_at h R S i j k) s ∙ one_more h R N whole i j k l
 
-  pub hand_next : (S T : List ℕ) (k : ℕ) → HandedTo h R N i j S k → k < h.n → T ≡ handed_at h R S i j k → HandedTo h R N i j T (k + 1)
-  hand_next S T k done l e =
-      record { at = omega arith; long = ap length made ∙ (so_far_whole h R N whole i j (k + 1)).cells ∙ sym whole.cells; made = made }
-    where
-      made : T ≡ register h (handed_before h R N i j (k + 1))
-      made = e ∙ ap (λ (S : List ℕ). handed_at h R S i j k) done.made ∙ one_more h R N whole i j k l
-
-  pub hand_done : (S : List ℕ) (k : ℕ) → HandedTo h R N i j S k → h.n ≤ k → S ≡ handed_over h R N i j
+  -- after the last turn all is
+  pub handed_end : (k : ℕ) → h.n ≤ k → register h (handed_before h R N i j k) ≡ handed_over h R N i j
   unfolding handed_before handed_over
-  hand_done S k done l =
-      done.made
-      ∙ register_ext h (handed_before h R N i j k) (handed_cell h R N i j) (λ x y hx hy. rw (lt-ltb y k (omega arith)))
+  handed_end k l = register_ext h (handed_before h R N i j k) (handed_cell h R N i j) (λ x y hx hy. rw (lt-ltb y k (omega arith)))
 
--- one cell: what the code makes is what the definition has, where k is another office than i, and where it is i itself
+-- one cell: k is another office than i, or i itself
 module _ (h : Header) (R N : List ℕ) (i j k : ℕ) where
-  pub handed_by :
-      {T : List ℕ} {a b gone c u : ℕ} → (k ≡ i → ⊥) →
-      a ≡ cell h R j k → b ≡ cell h N j k → gone ≡ without a b → c ≡ cell h N i k → u ≡ union c gone → T ≡ stored h N i k u →
-      T ≡ handed_at h R N i j k
+  pub handed_other :
+      eqb k i ≡ false → handed_at h R N i j k ≡ stored h N i k (union (cell h N i k) (without (cell h R j k) (cell h N j k)))
   unfolding handed_at handed_cell
-  handed_by other e₁ e₂ e₃ e₄ e₅ e₆ = rw (eq-eqb i i refl, ne_eqb k i other) (cc)
+  handed_other other = rw (eq-eqb i i refl, other)
 
-  pub handed_own : Whole h N → k ≡ i → N ≡ handed_at h R N i j k
+  pub handed_own : Whole h N → eqb k i ≡ true → handed_at h R N i j k ≡ N
   unfolding handed_at handed_cell
-  handed_own whole own = stored_same h N i k whole (rw (eq-eqb i i refl, eq-eqb k i own))
+  handed_own whole own = sym (stored_same h N i k whole (rw (eq-eqb i i refl, own)))

@@ -1,4 +1,4 @@
--- What the column step and the settling of a row come to, taken together. Assumes nothing.
+-- What the column step and the settling of a row come to, taken together.
 use Prim.Native.Nat.{ℕ, ◌*◌, ◌<◌}
 use native.Mathlib.Omega.{arith}
 use mathlib.Core.Path.{◌≡◌, refl, ap, ap₂, sym, ◌∙◌}
@@ -64,17 +64,16 @@ module _ (h : Header) (R : List ℕ) (i j : ℕ) where
 
 -- row j settled: j's level is taken after the column step, and what row j lost is handed over
 pub settle_made :
-    (h : Header) (B M : List ℕ) (i j : ℕ) {ls L C S : List ℕ} {v : ℕ} →
+    (h : Header) (B M : List ℕ) (i j : ℕ) {ls L S : List ℕ} {v : ℕ} →
     readable h M ≡ true → readable h B ≡ true →
-    ls ≡ padded_levels h M → v ≡ level_in ls j → L ≡ if_whole h M (restricted h M (row_to j v)) → C ≡ B →
-    S ≡ if_both_whole h C L (handed_over h C L i j) → S ≡ row_settled h B M i j
+    ls ≡ padded_levels h M → v ≡ level_in ls j → L ≡ if_whole h M (restricted h M (row_to j v)) →
+    S ≡ if_both_whole h B L (handed_over h B L i j) → S ≡ row_settled h B M i j
 unfolding if_both_whole if_whole row_settled
-settle_made h B M i j {v = v} m b e level l c s =
+settle_made h B M i j {v = v} m b e level l s =
     let settled : restricted h M (row_to j v) ≡ restricted h M (row_to j (level_in (levels h M) j)) =
     ap (λ (v : ℕ). restricted h M (row_to j v)) (level ∙ ap (λ (ls : List ℕ). level_in ls j) (e ∙ levels_read h M m) ∙ level_padded (levels h M) j)
     in
     let N = restricted h M (row_to j (level_in (levels h M) j)) in
     let kept : if_whole h M (restricted h M (row_to j v)) ≡ N = rw m settled in
-    let made = l ∙ kept in
     let still = still_whole h M N m (length-restricted h M (row_to j (level_in (levels h M) j))) in
-    s ∙ ap₂ (λ (C L : List ℕ). if_both_whole h C L (handed_over h C L i j)) c made ∙ rw (both b still)
+    s ∙ ap (λ (L : List ℕ). if_both_whole h B L (handed_over h B L i j)) (l ∙ kept) ∙ rw (both b still)

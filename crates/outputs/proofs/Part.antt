@@ -1,47 +1,30 @@
 -- Texts of bounded length on a page: none, one behind the other, and the text of a writer that is lent the rest of the page.
 use Prim.Native.Nat.{ℕ, ◌+◌, ◌-◌, ◌≤◌}
 use native.Mathlib.Omega.{arith}
-use mathlib.Core.Path.{◌≡◌, refl}
-use mathlib.Core.List.{List, [], ◌++◌, append-nil, append_assoc}
-use lib.ListN.{length, drop, length-drop, drop_of_length-le}
-use lib.Seq.{sets-eq, take_all, drop-drop}
+use mathlib.Core.Path.{◌≡◌}
+use mathlib.Core.List.{List, [], ◌++◌}
+use lib.ListN.{length}
 use borrow.Rule.Slice.Mut.{set_vals}
 use borrow.Rule.Slice.PartMut.{mid_of, put_mid}
-use Rattle.wording.specs.Writer.{written, written_behind}
-use Rattle.wording.proofs.Writers.{room-enough}
+use Rattle.wording.specs.Writer.{written_behind}
 use Rattle.printing.specs.Told.{Told}
 use Rattle.printing.specs.declared.Page.{Page}
 use Rattle.printing.specs.declared.Written.{Written}
+use Rattle.printing.proofs.Told.{told_part}
 use Rattle.printing.proofs.Adds.{adds_none, adds_both, adds_length}
 use Rattle.outputs.specs.Within.{HasRoom, AddsWithin}
 
 pub put_part :
-    {part : List ℕ} {result : Written} (before : Page) (refusal bound : ℕ) (text : List ℕ) → refusal ≡ 0 →
-    HasRoom bound before → length text ≤ bound →
+    {part : List ℕ} {result : Written} (before : Page) (refusal bound : ℕ) (text : List ℕ) → refusal ≡ 0 → HasRoom bound before → length text ≤ bound →
     Told (written_behind refusal (mid_of before.at (length before.room.now - before.at) before.room.now) text) result part →
     AddsWithin bound text before
     (record {
       room = set_vals (put_mid before.at (length before.room.now - before.at) before.room.now part) before.room;
       at = before.at + result.size;
     })
-unfolding written
 put_part before refusal bound text none room few told =
-    let rest = drop before.at before.room.now in
-    let size = length-drop before.at before.room.now in
-    let short : length rest ≤ length before.room.now - before.at = omega arith in
-    let enough : length text ≤ length rest = omega (arith, room.enough) in
-    let fits : before.at + length text ≤ length before.room.now = omega (arith, room.enough) in
-    let there = rw (none, take_all (length before.room.now - before.at) rest short, room-enough rest text enough) at told in
-    record {
-      adds =
-          record {
-            same = refl;
-            ends = omega (arith, there.sized);
-            holds =
-                simp (there.left, drop_of_length-le rest short, append-nil, drop-drop, sets-eq text before.room.now before.at fits, append_assoc);
-          };
-      few = omega (arith, there.sized);
-    }
+    let put = told_part {text = text} before (record { enough = omega (arith, room.enough) }) (rw none at told) in
+    record { adds = put; few = omega (arith, put.ends) }
 
 pub within_none : {page : Page} → AddsWithin 0 [] page page
 within_none = record { adds = adds_none; few = omega arith }

@@ -18,13 +18,13 @@ use registers::Register;
 use rights::{Header, Office, Refusal};
 
 // Writes what a command answered.
+// Kept: two lines in each writer here, since a helper that takes the writer as a closure has four clauses that each caller must meet.
 fn put_answer(page: &mut Page, done: Outcome)
     requires { HasRoom 54 page.old }
     ensures { AddsWithin 54 (answer_text done.answer done.removed done.added) page.old page.new }
 {
     let room = &mut page.room[page.at..];
-    let lines = answers::write_answer(done.answer, done.removed, done.added, room);
-    page.at += lines.size;
+    page.at += answers::write_answer(done.answer, done.removed, done.added, room).size;
 }
 
 // Writes that a text is refused, and where in the input its first bad line starts.
@@ -33,8 +33,7 @@ fn put_refused(page: &mut Page, number: u8, at: usize)
     ensures { AddsWithin 33 (refused_text number at) page.old page.new }
 {
     let room = &mut page.room[page.at..];
-    let lines = answers::write_refused(number, at as u32, room);
-    page.at += lines.size;
+    page.at += answers::write_refused(number, at as u32, room).size;
 }
 
 // Writes the row of one office.
@@ -43,8 +42,7 @@ fn put_row(page: &mut Page, register: &Register, row: Office)
     ensures { AddsWithin 11264 (row_text register.now.header register.now.cells.now row.0) page.old page.new }
 {
     let room = &mut page.room[page.at..];
-    let lines = row_writer::write_row(register.cells, register.header, row, room);
-    page.at += lines.size;
+    page.at += row_writer::write_row(register.cells, register.header, row, room).size;
 }
 
 // Writes the rows of all offices.
@@ -62,8 +60,8 @@ fn put_header(page: &mut Page, header: Header)
     requires { (headed header ≡ true) × HasRoom 26 page.old }
     ensures { AddsWithin 26 (header_text header) page.old page.new }
 {
-    let lines = frames::write_header(header, &mut page.room[page.at..]);
-    page.at += lines.size;
+    let room = &mut page.room[page.at..];
+    page.at += frames::write_header(header, room).size;
 }
 
 // Writes the line behind the last row.
@@ -71,8 +69,8 @@ fn put_end(page: &mut Page)
     requires { HasRoom 13 page.old }
     ensures { AddsWithin 13 end_text page.old page.new }
 {
-    let line = frames::write_end(&mut page.room[page.at..]);
-    page.at += line.size;
+    let room = &mut page.room[page.at..];
+    page.at += frames::write_end(room).size;
 }
 
 // Writes a register's text: header, rows, end.
@@ -88,6 +86,7 @@ fn put_register(page: &mut Page, register: &Register)
 // Runs the commands of a text one at a time and writes their answers, and behind them the register; a refused text ends it. The
 // text is what the input has from the byte `at` on. A command has five keys and five LF, 26 bytes, so three for each byte hold every
 // answer.
+// Kept: a recursion over the rest of the text, as the definition's; a loop's invariant would say all that has been written so far.
 fn put_commands(page: &mut Page, text: &[u8], at: usize, cells: &mut [u8], header: Header)
     requires { (register_refusal header cells.old ≡ 0) × (at + length text.now ≤ 65536) × HasRoom (3 * length text.now + 1441831) page.old }
     ensures { AddsWithin (3 * length text.now + 1441831) (commands_output header cells.old at text.now) page.old page.new }
@@ -101,7 +100,7 @@ fn put_commands(page: &mut Page, text: &[u8], at: usize, cells: &mut [u8], heade
     }
     let done = commands::command(cells, header, read.command);
     put_answer(page, done);
-    let rest = rests::command_rest(text, read);
+    let rest = rests::rest_from(text, read.next);
     put_commands(page, rest, at + read.next, cells, header);
 }
 
@@ -119,7 +118,7 @@ fn put_output(page: &mut Page, input: &[u8])
         return put_refused(page, read.answer, read.at);
     }
     let size = read.header.n as usize * read.header.n as usize;
-    let rest = rests::register_rest(input, read);
+    let rest = rests::rest_from(input, read.next);
     put_commands(page, rest, read.next, &mut buffer[..size], read.header);
 }
 

@@ -1,5 +1,5 @@
-// Numbers and lines written into a room that is lent. What is written by a function that answers is measured first, so that a room
-// that is too small is left as it was; the methods of a page ask for the room.
+// Numbers and lines written into a room that is lent. What is written by a public function is measured first, so that a room that
+// is too small is left as it was; the methods of a page ask for the room.
 #![tactic(auto)]
 
 ghost use Rattle.std.specs.Prelude.{◌≡◌, [], ◌∷◌, ◌+◌, ◌<◌, length, MatchOption};
@@ -65,7 +65,7 @@ impl Page<'_> {
     }
 
     // Writes bytes behind what stands on the page.
-    pub fn put_bytes(&mut self, text: &[u8])
+    fn put_bytes(&mut self, text: &[u8])
         requires { Fits text.now self.old }
         ensures { Adds text.now self.old self.new }
     {
@@ -75,6 +75,7 @@ impl Page<'_> {
     }
 
     // Writes a number in decimal: its last digit stands behind the others.
+    // Kept: a recursion, since a loop gives the digits last first, and `numeral` of the definitions is by the same steps.
     fn put_number(&mut self, v: u32)
         requires { Fits (numeral v) self.old }
         ensures { Adds (numeral v) self.old self.new }
@@ -86,7 +87,7 @@ impl Page<'_> {
     }
 
     // Writes a line behind what stands on the page.
-    pub fn put_line(&mut self, line: &Line)
+    fn put_line(&mut self, line: &Line)
         requires { Fits (line_bytes line.now) self.old }
         ensures { Adds (line_bytes line.now) self.old self.new }
     {

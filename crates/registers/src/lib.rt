@@ -3,7 +3,6 @@
 #![tactic(auto)]
 
 ghost use Rattle.std.specs.Prelude.{◌≡◌, true, is_some, IfSome};
-
 ghost use Rattle.rights.specs.Register.{cell as cell_of};
 ghost use Rattle.rights.specs.Sound.{headed as is_headed, whole as is_whole, readable as is_readable, barred as is_barred};
 

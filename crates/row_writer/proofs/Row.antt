@@ -5,7 +5,7 @@ use native.Mathlib.Numerals.{add-one}
 use native.Mathlib.Omega.{arith}
 use mathlib.Core.Path.{◌≡◌, refl}
 use mathlib.Core.Bool.{Bool, true, false, cond}
-use mathlib.Core.List.{List, [], ◌∷◌, ◌++◌, append-nil}
+use mathlib.Core.List.{List, [], ◌∷◌, ◌++◌, append-nil, append_assoc}
 use lib.ListN.{length, length-append}
 use Rattle.std.specs.List.{flat_map}
 use Rattle.rights.specs.declared.Header.{Header}
@@ -15,7 +15,7 @@ use Rattle.rights.specs.Permission.{code}
 use Rattle.rights.specs.Cell.{has, size}
 use Rattle.rights.specs.Register.{cell}
 use Rattle.theory.proofs.Cell.{cond_le}
-use Rattle.wording.specs.Word.{by_line, to_line, key, form, perms, word_for}
+use Rattle.wording.specs.Word.{key, form, perms, word_for}
 use Rattle.wording.specs.Line.{numeral, word_of, line_text}
 use Rattle.wording.specs.Records.{record_text, records_text, joined, record_of, cell_records, row_records_up_to, row_records, row_text}
 use Rattle.wording.proofs.Content.{records_text-append}
@@ -23,7 +23,7 @@ use Rattle.printing.specs.declared.Page.{Page}
 use Rattle.printing.specs.Page.{Fits, Adds}
 use Rattle.printing.proofs.Adds.{fits_second}
 use Rattle.printing.specs.NumberLine.{number_line}
-use Rattle.row_writer.specs.Row.{perm_text, member_text, cell_text, row_up_to}
+use Rattle.row_writer.specs.Row.{pair_text, perm_text, member_text, cell_text, row_up_to}
 
 perm-size : (p : Permission) → length (perm_text p) ≡ 8
 unfolding perm_text line_text key form word_of perms word_for code
@@ -32,18 +32,14 @@ perm-size TF = refl
 perm-size FT = refl
 perm-size FF = refl
 
--- a record's text: a line for its grantor, one for its subject, one for its permission
-abbrev pub three_lines : ℕ → ℕ → Permission → List ℕ
-three_lines i j p = number_line (key by_line) i ++ (number_line (key to_line) j ++ perm_text p)
-
-record_size : (i j : ℕ) (p : Permission) → length (three_lines i j p) ≡ 16 + length (numeral i) + length (numeral j)
-unfolding number_line key
+record_size : (i j : ℕ) (p : Permission) → length (pair_text i j ++ perm_text p) ≡ 16 + length (numeral i) + length (numeral j)
+unfolding pair_text number_line key
 record_size i j p = simp length-append (omega (arith, perm-size p))
 
 -- a record that stands is its three lines, and one that does not is nothing
-pub member_stands : (i j c : ℕ) (p : Permission) → has c p ≡ true → member_text i j c p ≡ three_lines i j p
-unfolding member_text record_of records_text record_text line_text key form word_of number_line perm_text
-member_stands i j c p e = rw (e, append-nil)
+pub member_stands : (i j c : ℕ) (p : Permission) → has c p ≡ true → member_text i j c p ≡ pair_text i j ++ perm_text p
+unfolding member_text record_of records_text record_text line_text key form word_of number_line pair_text perm_text
+member_stands i j c p e = rw (e, append-nil) (simp append_assoc)
 
 pub member_lacks : (i j c : ℕ) (p : Permission) → has c p ≡ false → member_text i j c p ≡ []
 unfolding member_text record_of records_text

@@ -1,11 +1,16 @@
 -- Names for the parts of a row's text.
-use Rattle.std.specs.Prelude.{ℕ, List}
+use Rattle.std.specs.Prelude.{ℕ, List, ◌++◌}
 use Rattle.rights.specs.declared.Header.{Header}
 use Rattle.rights.specs.declared.Permission.{Permission}
 use Rattle.rights.specs.Permission.{code}
-use Rattle.wording.specs.Word.{perm_line}
+use Rattle.wording.specs.Word.{by_line, to_line, perm_line, key}
 use Rattle.wording.specs.Line.{line_text}
 use Rattle.wording.specs.Records.{records_text, record_of, cell_records, row_records_up_to}
+use Rattle.printing.specs.NumberLine.{number_line}
+
+-- a record's lines `by=` and `to=`
+unfoldable pub pair_text : ℕ → ℕ → List ℕ
+pair_text i j = number_line (key by_line) i ++ number_line (key to_line) j
 
 -- a record's line `perm=`
 unfoldable pub perm_text : Permission → List ℕ

@@ -7,7 +7,7 @@ ghost use Rattle.wording.specs.Records.{row_text};
 ghost use Rattle.wording.specs.Writer.{row_refusal, row_written};
 ghost use Rattle.printing.specs.Page.{Fits, Adds};
 ghost use Rattle.printing.specs.Told.{Told, written_of};
-ghost use Rattle.row_writer.specs.Row.{perm_text, member_text, cell_text};
+ghost use Rattle.row_writer.specs.Row.{pair_text, perm_text, member_text, cell_text};
 
 use printing::{Line, Page, Written};
 use registers::Register;
@@ -46,15 +46,33 @@ fn row_size(register: &Register, row: Office) -> usize
     size
 }
 
+// Writes the grantor's and the subject's line of a record.
+fn put_pair(page: &mut Page, by: Office, to: Office)
+    requires { Fits (pair_text by.0 to.0) page.old }
+    ensures { Adds (pair_text by.0 to.0) page.old page.new }
+{
+    let pair = [Line(b"by=", by.0 as u32), Line(b"to=", to.0 as u32)];
+    let room = &mut page.room[page.at..];
+    page.at += printing::write_lines(&pair, room).size;
+}
+
+// Writes the permission's line of a record.
+fn put_perm(page: &mut Page, perm: Permission)
+    requires { Fits (perm_text perm) page.old }
+    ensures { Adds (perm_text perm) page.old page.new }
+{
+    let room = &mut page.room[page.at..];
+    page.at += printing::write_bytes(&perm_line(perm), room).size;
+}
+
 // Writes a record of a cell, if it stands there.
 fn put_member(page: &mut Page, by: Office, to: Office, c: u8, perm: Permission)
     requires { Fits (member_text by.0 to.0 c perm) page.old }
     ensures { Adds (member_text by.0 to.0 c perm) page.old page.new }
 {
     if cells::stands(c, perm) {
-        page.put_line(&Line(b"by=", by.0 as u32));
-        page.put_line(&Line(b"to=", to.0 as u32));
-        page.put_bytes(&perm_line(perm));
+        put_pair(page, by, to);
+        put_perm(page, perm);
     }
 }
 

@@ -4,7 +4,7 @@ use native.Mathlib.Omega.{arith}
 use mathlib.Core.Path.{◌≡◌, refl, ap, sym, ◌∙◌}
 use mathlib.Core.Bool.{Bool, true, false, cond}
 use mathlib.Core.List.{List, map}
-use lib.ListN.{length}
+use lib.ListN.{get_or}
 use lib.Dec.{eqb, ltb}
 use borrow.Author.Tests.{eqb-true, ne_eqb, lt-ltb, le-ltb}
 use borrow.Rule.Slice.PartMut.{mid_of, put_mid}
@@ -14,10 +14,11 @@ use Rattle.rights.specs.Cell.{restrict}
 use Rattle.rights.specs.Register.{cell}
 use Rattle.rights.specs.Restriction.{restricted, row_to}
 use Rattle.rows.specs.Whole.{Whole}
-use Rattle.rows.specs.Row.{at_level, on_row}
+use Rattle.rows.specs.Row.{at_level, on_row, to_levels}
+use Rattle.theory.proofs.Below.{length-table, table_at, table_ext}
 use Rattle.theory.proofs.Register.{register_ext, register_of}
 use Rattle.theory.proofs.Restriction.{restricted-cell, restricted_ext, length-restricted}
-use Rattle.rows.proofs.Table.{map-table, before_next}
+use Rattle.rows.proofs.Table.{map_each, before_next}
 use Rattle.rows.proofs.Part.{row_part, put_row}
 
 -- what level 2 keeps is as it was
@@ -70,30 +71,17 @@ module _ (h : Header) (R : List ℕ) (whole : Whole h R) (to : ℕ → ℕ → �
       (λ x y. restrict (cell h R x y) (rows_before (k + 1) to x y))
       (λ x y hx hy. more-cell k x y hx hy (eqb x k) refl)
 
--- Where a loop over the rows stands before row i: S is what it has made of R.
-pub record RowsDone (h : Header) (R : List ℕ) (to : ℕ → ℕ → ℕ) (S : List ℕ) (i : ℕ) : Type 0 where
-  pub at : i ≤ h.n
-  pub long : length S ≡ length R
-  pub made : S ≡ restricted h R (rows_before i to)
-
-module _ (h : Header) (R : List ℕ) (whole : Whole h R) (to : ℕ → ℕ → ℕ) where
-  pub rows_start : RowsDone h R to R 0
-  rows_start = record { at = zero-le; long = refl; made = sym (rows_none h R whole to) }
-
-  -- the register is still whole
-  pub rows_whole : (S : List ℕ) (i : ℕ) → RowsDone h R to S i → Whole h S
-  rows_whole S i done = record { cells = done.long ∙ whole.cells; few = whole.few }
-
+  -- a turn of a loop over the rows
   pub rows_next :
-      (S T : List ℕ) (i : ℕ) → RowsDone h R to S i → i < h.n → T ≡ restricted h S (on_row i (to i)) → RowsDone h R to T (i + 1)
-  rows_next S T i done l e =
-      record { at = omega arith; long = ap length made ∙ (restricted-whole h R (rows_before (i + 1) to) whole).cells ∙ sym whole.cells; made = made }
-    where
-      made : T ≡ restricted h R (rows_before (i + 1) to)
-      made = e ∙ ap (λ (S : List ℕ). restricted h S (on_row i (to i))) done.made ∙ rows_more h R whole to i
+      {S T : List ℕ} (k : ℕ) → S ≡ restricted h R (rows_before k to) → T ≡ restricted h S (on_row k (to k)) → T ≡ restricted h R (rows_before (k + 1) to)
+  rows_next k s t = t ∙ ap (λ (S : List ℕ). restricted h S (on_row k (to k))) s ∙ rows_more k
 
-  pub rows_over : (S : List ℕ) (i : ℕ) → RowsDone h R to S i → h.n ≤ i → S ≡ restricted h R to
-  rows_over S i done l = done.made ∙ rows_all h R whole to i l
+levels_of_table : (level : ℕ → ℕ) (n : ℕ) (f : ℕ → ℕ) → to_levels level (table n f) ≡ table n (λ y. restrict (f y) (level y))
+unfolding to_levels
+levels_of_table level n f =
+    rw (length-table n f)
+    (table_ext n (λ y. restrict (get_or (table n f) y 0) (level y)) (λ y. restrict (f y) (level y))
+    (λ y hy. ap (λ (c : ℕ). restrict c (level y)) (table_at n f y 0 hy)))
 
 -- a row that was lent as a part and has come back restricted
 module _ (h : Header) (R : List ℕ) (whole : Whole h R) (i : ℕ) (office : i < h.n) (e : ℕ) (end : e ≡ i * h.n + h.n) where
@@ -111,11 +99,14 @@ module _ (h : Header) (R : List ℕ) (whole : Whole h R) (i : ℕ) (office : i <
       at x y true q = let same : x ≡ i = eqb-true x i q in rw (q, same)
       at x y false q = rw q
 
-  pub put_row_to :
-      (level : ℕ) →
-      put_mid (i * h.n) (e - i * h.n) R (map (at_level level) (mid_of (i * h.n) (e - i * h.n) R)) ≡ restricted h R (row_to i level)
-  unfolding row_to at_level on_row
-  put_row_to level =
-      ap (λ (row : List ℕ). put_mid (i * h.n) (e - i * h.n) R (map (at_level level) row)) (row_part h R whole i office e end)
-      ∙ ap (put_mid (i * h.n) (e - i * h.n) R) (map-table h.n (at_level level) (cell h R i))
-      ∙ put_restricted (λ y. level)
+  pub put_to_levels :
+      (level : ℕ → ℕ) → put_mid (i * h.n) (e - i * h.n) R (to_levels level (mid_of (i * h.n) (e - i * h.n) R)) ≡ restricted h R (on_row i level)
+  put_to_levels level =
+      ap (λ (row : List ℕ). put_mid (i * h.n) (e - i * h.n) R (to_levels level row)) (row_part h R whole i office e end)
+      ∙ ap (put_mid (i * h.n) (e - i * h.n) R) (levels_of_table level h.n (cell h R i))
+      ∙ put_restricted level
+
+-- a row to one level
+pub to_one_level : (level : ℕ) (row : List ℕ) → map (at_level level) row ≡ to_levels (λ y. level) row
+unfolding at_level to_levels
+to_one_level level row = sym (map_each (at_level level) row)

@@ -1,4 +1,4 @@
--- No second outcome: at most one list of bytes left behind satisfies each contract. Assumes nothing.
+-- No second outcome: at most one list of bytes left behind satisfies each contract.
 -- `Post` is the contract as the check reads it: of the lifetimes, the arguments, the result and the arguments at exit.
 use Prim.Native.Nat.{ℕ}
 use mathlib.Core.List.{List}
@@ -7,6 +7,7 @@ use Rattle.rights.specs.declared.Header.{Header}
 use Rattle.rights.specs.declared.Office.{Office}
 use Rattle.theory.proofs.Once.{Once, no_second}
 use Rattle.rows.proofs.restrict_row.Reads as restrict-row
+use Rattle.rows.proofs.restrict_to.Reads as restrict-to
 use Rattle.rows.proofs.restrict_rows.Reads as restrict-rows
 use Rattle.rows.proofs.restrict_one_row.Reads as restrict-one-row
 
@@ -25,3 +26,9 @@ pub restrict_one_row_once :
     Once (λ (bytes : List ℕ).
     restrict-one-row.Post κs (cells, (h, (row, (level, tt)))) tt (at_last cells bytes, (h, (row, (level, tt)))))
 restrict_one_row_once κs cells h row level = no_second _
+
+pub restrict_to_once :
+    (T : _) (laws : _) (ghosts : _) (dict : _) (κs : _) (cells : MutBor (List ℕ)) (h : Header) (levels : _) →
+    Once (λ (bytes : List ℕ).
+    restrict-to.Post T laws ghosts dict κs (cells, (h, (levels, tt))) tt (at_last cells bytes, (h, (levels, tt))))
+restrict_to_once T laws ghosts dict κs cells h levels = no_second _

@@ -1,10 +1,9 @@
--- What the steps of a round, and of the whole deletion, come to, taken together. Assumes nothing.
-use Prim.Native.Nat.{ℕ, ◌-◌, ◌≤◌, ◌<◌}
-use native.Mathlib.Omega.{arith}
-use mathlib.Core.Path.{◌≡◌, refl, ap, ap₂, sym, ◌∙◌}
+-- What the steps of a round, and of the whole deletion, come to, taken together.
+use Prim.Native.Nat.{ℕ, ◌<◌}
+use mathlib.Core.Path.{◌≡◌, refl, ap, sym, ◌∙◌}
 use mathlib.Core.Bool.{Bool, true, false, not, cond}
 use mathlib.Core.List.{List}
-use lib.ListN.{length, take}
+use lib.ListN.{length}
 use lib.Dec.{eqb}
 use Rattle.rights.specs.declared.Header.{Header}
 use Rattle.rights.specs.Below.{table}
@@ -23,10 +22,8 @@ use Rattle.holdings.specs.Loser.{mark_by, padded_losers}
 use Rattle.rows.specs.Whole.{if_whole}
 use Rattle.rows.proofs.Guard.{in_whole}
 use Rattle.columns.specs.Marked.{is_marked}
-use Rattle.buffers.specs.Copy.{copy_of}
 use Rattle.rows.proofs.Whole.{still_whole}
 use Rattle.local.proofs.Made.{length-column_step}
-use Rattle.buffers.proofs.Copy.{copy_start}
 use Rattle.strong.proofs.Rest.{until_padded}
 
 mark_tells : (t : Bool) → not (eqb (cond t 1 0) 0) ≡ t
@@ -63,30 +60,25 @@ module _ (h : Header) (R S : List ℕ) (r : readable h R ≡ true) (s : readable
       ∙ ap (λ (M : List ℕ). if_whole h M (sweep h M)) cut
       ∙ in_whole h T (sweep h T) (still_whole h S T s (length-restricted h S (columns_to (is_in (losers h R S)) own)))
 
--- the part of a copy that is as long as the register is the register
-pub kept_part : (R : List ℕ) {C : List ℕ} {m : ℕ} → C ≡ copy_of R → length R ≤ 16384 → m ≡ length R → take (m - 0) C ≡ R
-kept_part R {m = m} c few e =
-    let all : m - 0 ≡ length R = omega arith in ap₂ (λ (k : ℕ) (C : List ℕ). take k C) all c ∙ copy_start R few
-
 module _ (h : Header) (R : List ℕ) (r : readable h R ≡ true) (i j : ℕ) where
   -- before the rounds
-  pub start_made : {M W : List ℕ} → M ≡ if_whole h R (column_step h R i j) → W ≡ if_whole h M (sweep h M) → W ≡ sweep h (column_step h R i j)
+  start_made : {M W : List ℕ} → M ≡ if_whole h R (column_step h R i j) → W ≡ if_whole h M (sweep h M) → W ≡ sweep h (column_step h R i j)
   start_made m w =
       let T = column_step h R i j in
       w
       ∙ ap (λ (M : List ℕ). if_whole h M (sweep h M)) (m ∙ in_whole h R T r)
       ∙ in_whole h T (sweep h T) (still_whole h R T r (length-column_step h R i j))
 
-  pub start_whole : {W : List ℕ} → W ≡ sweep h (column_step h R i j) → readable h W ≡ true
-  start_whole {W} w = still_whole h R W r (ap length w ∙ length-sweep h (column_step h R i j))
+  pub start_readable : {M W : List ℕ} → M ≡ if_whole h R (column_step h R i j) → W ≡ if_whole h M (sweep h M) → readable h W ≡ true
+  start_readable {W = W} m w = still_whole h R W r (ap length (start_made m w) ∙ length-sweep h (column_step h R i j))
 
   pub sgd_made :
-      {own B W N : List ℕ} → own ≡ padded_independent h R i → B ≡ R → W ≡ sweep h (column_step h R i j) →
-      N ≡ until_rest h B own h.n W → N ≡ sgd h R i j
+      {own M W N : List ℕ} → own ≡ padded_independent h R i → M ≡ if_whole h R (column_step h R i j) → W ≡ if_whole h M (sweep h M) →
+      N ≡ until_rest h R own h.n W → N ≡ sgd h R i j
   unfolding sgd
-  sgd_made {own} o b w n =
+  sgd_made {own} o m w n =
       let T = sweep h (column_step h R i j) in
       n
-      ∙ ap₂ (λ (B W : List ℕ). until_rest h B own h.n W) b w
+      ∙ ap (until_rest h R own h.n) (start_made m w)
       ∙ ap (λ (own : List ℕ). until_rest h R own h.n T) (o ∙ independent_read h R i r)
       ∙ until_padded h R (independent_levels h R i) h.n T

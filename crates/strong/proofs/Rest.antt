@@ -1,5 +1,5 @@
--- The rounds of strong global deletion, one after the other. Assumes nothing.
-use Prim.Native.Nat.{ℕ, zero, suc, ◌+◌, ◌-◌, ◌*◌, ◌<◌}
+-- The rounds of strong global deletion, one after the other.
+use Prim.Native.Nat.{ℕ, zero, suc, ◌+◌, ◌-◌, ◌*◌, ◌<◌, ◌≤◌}
 use native.Mathlib.Omega.{arith}
 use mathlib.Core.Path.{◌≡◌, refl, ap, sym, ◌∙◌}
 use mathlib.Core.Logic.{⊎_elim}
@@ -46,17 +46,18 @@ module _ (h : Header) (R own : List ℕ) where
       until_next h R (padded 0 own) k S (e ∙ q) ∙ until_padded k long ∙ ap (until_rest h R own k) (round_padded S) ∙ sym (until_next h R own k S q))
       (decided (same h next S))
 
-  -- before the first round all are left
-  pub all_left : (n : ℕ) (S : List ℕ) → until_rest h R own (n - 0) S ≡ until_rest h R own n S
-  all_left n S = let e : n - 0 ≡ n = omega arith in ap (λ (m : ℕ). until_rest h R own m S) e
+  -- after the last round none is left
+  pub none_left : (n k : ℕ) (S : List ℕ) → n ≤ k → until_rest h R own (n - k) S ≡ S
+  unfolding until_rest
+  none_left n k S l = let none : n - k ≡ 0 = omega arith in rw none
 
-  module _ (n k : ℕ) (more : k < n) (S : List ℕ) {N rest : List ℕ} {rests : Bool} (made : N ≡ strong_round h R own S) (tells : rests ≡ same h N S)
-      (left : until_rest h R own (n - k) S ≡ rest) where
+  module _ (n k : ℕ) (more : k < n) (S first : List ℕ) {N : List ℕ} {rests : Bool} (made : N ≡ strong_round h R own S) (tells : rests ≡ same h N S)
+      (left : until_rest h R own (n - k) S ≡ until_rest h R own n first) where
     one_more : n - k ≡ suc (n - (k + 1))
     one_more = omega arith
 
     -- the round that alters nothing is the last
-    pub last_round : readable h S ≡ true → rests ≡ true → N ≡ rest
+    pub last_round : readable h S ≡ true → rests ≡ true → N ≡ until_rest h R own n first
     last_round s q =
         let now : same h (strong_round h R own S) S ≡ true = rw made at (sym tells ∙ q) in
         made
@@ -66,7 +67,7 @@ module _ (h : Header) (R own : List ℕ) where
         ∙ left
 
     -- after another the rounds go on
-    pub next_round : rests ≡ false → until_rest h R own (n - (k + 1)) N ≡ rest
+    pub next_round : rests ≡ false → until_rest h R own (n - (k + 1)) N ≡ until_rest h R own n first
     next_round q =
         let now : same h (strong_round h R own S) S ≡ false = rw made at (sym tells ∙ q) in
         ap (until_rest h R own (n - (k + 1))) made
@@ -74,5 +75,5 @@ module _ (h : Header) (R own : List ℕ) where
         ∙ ap (λ (m : ℕ). until_rest h R own m S) (sym one_more)
         ∙ left
 
-    pub round_whole : readable h S ≡ true → readable h N ≡ true
-    round_whole s = still_whole h S N s (ap length made ∙ length_round S)
+    pub round_readable : readable h S ≡ true → readable h N ≡ true
+    round_readable s = still_whole h S N s (ap length made ∙ length_round S)

@@ -1,4 +1,4 @@
--- Levels made up to 128 entries restrict as the levels themselves. Assumes nothing.
+-- Levels made up to 128 entries restrict as the levels themselves.
 use Prim.Native.Nat.{ℕ}
 use mathlib.Core.Path.{◌≡◌}
 use mathlib.Core.Bool.{true}

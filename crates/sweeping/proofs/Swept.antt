@@ -1,4 +1,4 @@
--- What the steps of a sweep and of weak global deletion come to, taken together. Assumes nothing.
+-- What the steps of a sweep and of weak global deletion come to, taken together.
 use Prim.Native.Nat.{ℕ, ◌*◌}
 use mathlib.Core.Path.{◌≡◌, ap, ◌∙◌}
 use mathlib.Core.List.{List}

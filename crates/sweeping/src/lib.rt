@@ -10,6 +10,7 @@ ghost use Rattle.rows.specs.Whole.{if_whole};
 use rights::{Header, Office};
 
 // Every row to the level of its grantor. All levels are taken before any row is restricted.
+#[tactic(auto, using(crate::proofs::Swept::sweep_made))]
 pub fn sweep(cells: &mut [u8], header: Header)
     ensures { cells.new ≡ if_whole header cells.old (swept header cells.old) }
 {
@@ -18,6 +19,7 @@ pub fn sweep(cells: &mut [u8], header: Header)
 }
 
 // Weak global deletion: what the cell gave is gone, and with it whatever hung on it alone.
+#[tactic(auto, using(crate::proofs::Swept::wgd_made))]
 pub fn wgd(cells: &mut [u8], header: Header, by: Office, to: Office)
     ensures { cells.new ≡ if_whole header cells.old (weak_global header cells.old by.0 to.0) }
 {

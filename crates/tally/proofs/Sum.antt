@@ -1,23 +1,17 @@
--- Sums over rows and over bytes. Assumes nothing.
-use Prim.Native.Nat.{ℕ, zero, suc, ◌+◌, ◌*◌, ◌≤◌}
+-- Sums over rows and over bytes.
+use Rattle.std.proofs.Common.{ℕ, zero, suc, ◌+◌, ◌*◌, ◌≡◌, refl, List, [], ◌∷◌, length, sum_by, true, ap, sym, ◌∙◌, arith}
+use Rattle.std.specs.List.{zip}
+use Rattle.std.proofs.lemmas.List.Sums.{sum_by-cons}
 use native.Mathlib.Nat.{add-zero, add-suc, add_assoc}
-use native.Mathlib.Numerals.{add-one}
-use native.Mathlib.Omega.{arith}
-use mathlib.Core.Path.{◌≡◌, ap, sym, ◌∙◌}
-use mathlib.Core.List.{List}
-use lib.ListN.{get_or}
 use Rattle.rights.specs.declared.Header.{Header}
-use Rattle.rights.specs.declared.Permission.TheVariants.{TT, TF, FT, FF}
 use Rattle.rights.specs.Below.{sum_below}
-use Rattle.rights.specs.Cell.{has, size, without}
+use Rattle.rights.specs.Cell.{size, without}
 use Rattle.rights.specs.Register.{cell}
+use Rattle.rights.specs.Sound.{headed, whole, readable}
 use Rattle.rights.specs.Tally.{missing}
-use Rattle.theory.proofs.Cell.{cond_le}
+use Rattle.theory.proofs.Tests.{right_of}
+use Rattle.theory.proofs.Ready.{whole_length}
 use Rattle.tally.specs.Missing.{missing_at}
-
-pub sum-next : (k : ℕ) (f : ℕ → ℕ) → sum_below (k + 1) f ≡ sum_below k f + f k
-unfolding sum_below
-sum-next k f = rw (add-one k)
 
 sum_split : (a b : ℕ) (f : ℕ → ℕ) → sum_below (a + b) f ≡ sum_below a f + sum_below b (λ k. f (a + k))
 unfolding sum_below
@@ -34,16 +28,31 @@ sum_rows (suc m) n f =
     let more : suc m * n ≡ m * n + n = omega arith in
     rw more (sum_split (m * n) n f ∙ ap (λ (s : ℕ). s + sum_below n (λ j. f (m * n + j))) (sum_rows m n f))
 
-pub missing-bytes : (h : Header) (R S : List ℕ) → sum_below (h.n * h.n) (missing_at R S) ≡ missing h R S
-unfolding missing missing_at cell
-missing-bytes h R S = sum_rows h.n h.n (missing_at R S)
+-- the first number's value before the others
+sum_front : (n : ℕ) (f : ℕ → ℕ) → sum_below (suc n) f ≡ f 0 + sum_below n (λ k. f (suc k))
+unfolding sum_below
+sum_front zero f = omega arith
+sum_front (suc n) f = ap (λ (s : ℕ). s + f (suc n)) (sum_front n f) ∙ add_assoc (f 0) (sum_below n (λ k. f (suc k))) (f (suc n))
 
-pub size_small : (c : ℕ) → size c ≤ 4
-unfolding size
-size_small c =
-    omega (arith, cond_le (has c TT) 1, cond_le (has c TF) 1, cond_le (has c FT) 1, cond_le (has c FF) 1)
+-- what is missing from a pair of bytes
+abbrev pub missing_of : ℕ × ℕ → ℕ
+missing_of both = size (without both.0 both.1)
 
-pub sum-small : (k : ℕ) (R S : List ℕ) → sum_below k (missing_at R S) ≤ k * 4
+-- pair by pair is byte by byte
+sum_pairs : (R S : List ℕ) → length R ≡ length S → sum_by missing_of (zip R S) ≡ sum_below (length R) (missing_at R S)
 unfolding sum_below missing_at
-sum-small zero R S = omega arith
-sum-small (suc k) R S = omega (arith, sum-small k R S, size_small (without (get_or R k 0) (get_or S k 0)))
+sum_pairs [] S e = refl
+sum_pairs (x ∷ R) [] e = absurd (omega (arith, e))
+sum_pairs (x ∷ R) (y ∷ S) e =
+    sum_by-cons missing_of (x, y) (zip R S)
+    ∙ ap (λ (s : ℕ). size (without x y) + s) (sum_pairs R S (omega (arith, e)))
+    ∙ sym (sum_front (length R) (missing_at (x ∷ R) (y ∷ S)))
+
+-- the records that one register has and another lacks, pair by pair
+pub missing_pairs :
+    (h : Header) (R S : List ℕ) → readable h R ≡ true → readable h S ≡ true → sum_by missing_of (zip R S) ≡ missing h R S
+unfolding missing missing_at cell
+missing_pairs h R S r s =
+    let long = whole_length h R (right_of (headed h) (whole h R) r) in
+    let same = whole_length h S (right_of (headed h) (whole h S) s) in
+    sum_pairs R S (long ∙ sym same) ∙ ap (λ (k : ℕ). sum_below k (missing_at R S)) long ∙ sum_rows h.n h.n (missing_at R S)

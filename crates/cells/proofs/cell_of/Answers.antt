@@ -31,7 +31,8 @@ given tt tf ft ff FF = ff
 
 pub returns : goal.returns
 unfolding given cell_of code
-returns g c =
-    (given c.test.result c.test-2.result c.test-3.result c.test-4.result,
-    elim [ TT ↦ c.test.ensures | TF ↦ c.test-2.ensures | FT ↦ c.test-3.ensures | FF ↦ c.test-4.ensures ],
-    ap₂ ◌+◌ (ap₂ ◌+◌ (ap₂ ◌+◌ c.code_if.ensures.value c.code_if-2.ensures.value) c.code_if-3.ensures.value) c.code_if-4.ensures.value)
+returns g c = (
+  given c.test.result c.test-2.result c.test-3.result c.test-4.result,
+  elim [ TT ↦ c.test.ensures | TF ↦ c.test-2.ensures | FT ↦ c.test-3.ensures | FF ↦ c.test-4.ensures ],
+  ap₂ ◌+◌ (ap₂ ◌+◌ (ap₂ ◌+◌ c.code_if.ensures.value c.code_if-2.ensures.value) c.code_if-3.ensures.value) c.code_if-4.ensures.value,
+)

@@ -9,9 +9,9 @@ use Rattle.outputs.proofs.put_header.Goals as goal
 pub overflow_add-page : goal.overflow_add-page
 unfolding header_written
 overflow_add-page c =
-    let there = put_part c.args.page.now _ 26 _ (header_accepted _ c.requires.0) c.requires.1 (header_short _ c.requires.0 (omega arith)) c.write_header-lines.ensures in
+    let there = put_part c.args.page.now _ 26 _ (header_accepted _ c.requires.0) c.requires.1 (header_short _ c.requires.0 (omega arith)) c.write_header.ensures in
     omega (arith, c.requires.1.enough, there.few)
 
 pub returns : goal.returns
 unfolding header_written
-returns c = put_part c.args.page.now _ 26 _ (header_accepted _ c.requires.0) c.requires.1 (header_short _ c.requires.0 (omega arith)) c.write_header-lines.ensures
+returns c = put_part c.args.page.now _ 26 _ (header_accepted _ c.requires.0) c.requires.1 (header_short _ c.requires.0 (omega arith)) c.write_header.ensures

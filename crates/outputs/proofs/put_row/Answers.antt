@@ -13,7 +13,7 @@ overflow_add-page c =
     let there =
     put_part c.args.page.now _ 11264 _ (row_accepted _ _ c.requires.0 _ c.requires.1) c.requires.2
     (row_short _ _ _ (register_ready _ _ c.requires.0).headed c.requires.1)
-    c.write_row-lines.ensures in
+    c.write_row.ensures in
     omega (arith, c.requires.2.enough, there.few)
 
 pub returns : goal.returns
@@ -21,4 +21,4 @@ unfolding row_written
 returns c =
     put_part c.args.page.now _ 11264 _ (row_accepted _ _ c.requires.0 _ c.requires.1) c.requires.2
     (row_short _ _ _ (register_ready _ _ c.requires.0).headed c.requires.1)
-    c.write_row-lines.ensures
+    c.write_row.ensures

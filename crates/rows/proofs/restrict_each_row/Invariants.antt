@@ -1,11 +1,8 @@
--- `rows::restrict_each_row` meets its contract: before each turn the rows before i are restricted. Assumes nothing.
-use Prim.Native.Nat.{◌-◌}
-use Rattle.rights.specs.Restriction.{rows_to}
-use Rattle.rows.proofs.Rows.{RowsDone}
+-- `rows::restrict_each_row` meets its contract: before each turn the rows before i are restricted.
+use Rattle.std.proofs.Common.{◌≡◌}
+use Rattle.rights.specs.Restriction.{restricted}
+use Rattle.rows.proofs.Rows.{rows_before}
 use Rattle.rows.proofs.restrict_each_row.Given as goal
 
 abbrev pub invariant-loop-i : goal.invariant-loop-i
-invariant-loop-i l = RowsDone l.header l.initial.cells (rows_to l.levels) l.cells l.i
-
-abbrev pub decreases-loop-i : goal.decreases-loop-i
-decreases-loop-i l = l.header.n - l.i
+invariant-loop-i g l = l.cells ≡ restricted l.header l.initial.cells (rows_before l.i (g.L.Levels.level l.levels))

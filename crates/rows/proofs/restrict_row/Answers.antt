@@ -1,28 +1,14 @@
--- `rows::restrict_row` meets its contract: before each turn the cells before y are restricted. Assumes nothing.
-use mathlib.Core.Path.{ap, ◌∙◌}
-use native.Mathlib.Omega.{arith}
+-- `rows::restrict_row` meets its contract: before each turn the cells before the turn's own are restricted.
+use Rattle.std.proofs.Common.{set, ◌∙◌, ap, sym, arith}
+use Rattle.std.proofs.lemmas.List.{get_or_default}
+use Rattle.std.proofs.lemmas.List.Edits.{map_over_more}
 use Rattle.rows.specs.Row.{at_level}
-use Rattle.rows.proofs.Table.{each, map_each, walk_start, walk_here, walk_next, walk_over}
 use Rattle.rows.proofs.restrict_row.Goals as goal
 
-pub loop-y-init : goal.loop-y-init
-loop-y-init c = walk_start (each (at_level c.args.level) c.args.row.now) c.args.row.now
-
-pub loop-y-preserved : goal.loop-y-preserved
-unfolding each at_level
-loop-y-preserved c =
-    let at = c.loop-y in
+pub loop-cell-preserved : goal.loop-cell-preserved
+unfolding at_level
+loop-cell-preserved c =
+    let at = c.loop-cell in
     let row = c.args.row.now in
-    let rule = each (at_level c.args.level) row in
-    walk_next rule row at.row at.y c.restrict.result at.invariant (omega arith)
-    (c.restrict.ensures ∙ ap (at_level c.args.level) (walk_here rule row at.row at.y at.invariant (omega arith)))
-
-pub shape_of-row : goal.shape_of-row
-shape_of-row c = c.loop-y.invariant.long
-
-pub returns : goal.returns
-returns c =
-    let row = c.args.row.now in
-    let level = c.args.level in
-    walk_over (each (at_level level) row) row c.loop-y.row c.loop-y.y c.loop-y.invariant (omega arith)
-    ∙ map_each (at_level level) row
+    ap (set at.row at.cell-index) c.restrict.ensures
+    ∙ map_over_more (at_level c.args.level) row at.row at.cell-index _ (omega arith) at.invariant (sym (get_or_default at.row at.cell-index _ 0 (omega arith)))

@@ -2,7 +2,7 @@
 // Levels come as 128 bytes, one for each office there can be, as `levels` gives them.
 #![tactic(auto)]
 
-ghost use Rattle.std.specs.Prelude.{◌≡◌, is_some, IfSome, ◌≤◌, ◌<◌, ◌&&◌, not};
+ghost use Rattle.std.specs.Prelude.{◌≡◌, is_some, IfSome, ◌<◌};
 ghost use Rattle.levels.specs.Padded.{padded, padded_levels};
 ghost use Rattle.rights.specs.Below.{table};
 ghost use Rattle.rights.specs.Level.{holds_by, passes_on};

@@ -7,6 +7,7 @@ ghost use Rattle.answers.specs.Answers.{answer_written, refused_written};
 use printing::{Line, Written};
 
 // What a command answered, and how many records it removed and added.
+// Kept: a number for the answer, here and below, since it takes every number.
 #[tactic(auto, unfolding(crate::specs::Answers::answer_written, crate::specs::Answers::answer_text))]
 pub fn write_answer(answer: u8, removed: u32, added: u32, room: &mut [u8]) -> Written
     ensures { Told (answer_written answer removed added room.old) result room.new }

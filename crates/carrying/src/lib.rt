@@ -21,6 +21,7 @@ pub fn carries_as(c: u8, perm: Permission) -> bool
 }
 
 // Whether such a link can be read as the permission that the number stands for.
+// Kept: a number for the permission, here and in `enough`, since both take every byte.
 pub fn carries(c: u8, perm: u8) -> bool
     ensures { result ≡ cell_carries c (decoded perm) }
 {

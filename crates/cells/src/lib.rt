@@ -11,6 +11,7 @@ ghost use Rattle.rights.specs.Cell.{cell_of, has as has_record, size as cell_siz
 use rights::Permission;
 
 // Whether the number is the code of a permission.
+// Kept: a number, here and in `has`, since both take every byte.
 #[tactic(auto, unfolding(rights::specs::Permission::is_code, rights::specs::Permission::any_permission, rights::specs::Permission::code))]
 pub fn is_code(perm: u8) -> bool
     ensures { result ≡ is_code perm }

@@ -12,6 +12,7 @@ ghost use Rattle.commands.specs.Post.{Answers};
 use rights::{Act, Command, Header};
 
 // What a command answers: 0 or its refusal, and the records that it removed and added.
+// Kept: a number for the answer, since C reads this struct.
 #[repr(C)]
 #[derive(Clone, Copy, Default)]
 pub struct Outcome {

@@ -33,6 +33,7 @@ pub fn empty_cell(cells: &mut [u8], header: Header, i: Office, j: Office)
 }
 
 // The record is added to the cell of grantor i and subject j. A permission is read as the definitions read a code.
+// Kept: a number for the permission, since it takes every byte.
 #[tactic(auto, using(rows::proofs::Guard::whole_read, crate::proofs::Cells::granted_stored), unfolding(rows::specs::Whole::if_whole))]
 pub fn add_record(cells: &mut [u8], header: Header, i: Office, j: Office, perm: u8)
     ensures { cells.new ≡ if_whole header cells.old (granted header cells.old i.0 j.0 (decoded perm)) }

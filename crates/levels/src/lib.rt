@@ -11,6 +11,7 @@ use registers::Register;
 use rights::{Header, Office, Permission};
 
 // Whether x is marked and its link to y carries the permission: a grantor that is not marked passes nothing on.
+// Kept: beside `link_into` of `questions`, where the mark is at the other end of the link.
 #[tactic(auto, unfolding(rights::specs::Level::is_in))]
 fn links(register: &Register, perm: Permission, marks: &[bool; 128], x: u16, y: u16) -> bool
     requires { x < 128 }
@@ -36,6 +37,7 @@ fn marked_next(register: &Register, out: u16, perm: Permission, marks: &[bool; 1
 }
 
 // One round. It reads the marks as they were before it, so the new ones are an array of their own.
+// Kept: a loop, here and where other arrays are filled: a function that takes what is filled in is longer than it.
 #[tactic(auto, using(registers::proofs::Bounds::readable_high, crate::proofs::Padded::filling))]
 fn round(register: &Register, out: u16, perm: Permission, marks: &[bool; 128]) -> [bool; 128]
     ensures { result ≡ padded false (marking register.now.header register.now.cells.now (other_than out) perm marks.now) }
@@ -89,6 +91,7 @@ fn level_of(whole: bool, part: bool) -> u8
 }
 
 // The levels of n offices, from the sets of those that hold TT and TF.
+// Kept: two arrays, since each is found by a search of its own.
 #[tactic(auto, using(crate::proofs::Padded::filling), unfolding(rights::specs::Level::is_in))]
 fn levels_by(n: u16, whole: &[bool; 128], part: &[bool; 128]) -> [u8; 128]
     requires { n ≤ 128 }

@@ -30,6 +30,7 @@ fn word(text: &[u8], at: usize, bytes: &[u8]) -> Option<usize>
 }
 
 // The number of the first of the words, each with its LF, that stands there, and where the next line starts.
+// Kept: numbers as values, since a line of any kind has one.
 fn choice(text: &[u8], at: usize, words: &[(&[u8], u16)]) -> Option<(u16, usize)>
     requires { All (λ w. 0 < length w.0.now) words.now }
     ensures { result ≡ line_read text.now (chosen_in words.now (drop at text.now)) }

@@ -13,6 +13,7 @@ use buffers::Kept;
 use rights::{Header, Office};
 
 // The marks of one office alone.
+// Kept: a set of bytes, since a mark of a column may be any byte but 0 (`restrict_columns`).
 #[tactic(auto, unfolding(crate::specs::Mark::only_mark))]
 fn single(office: Office) -> [u8; 128]
     ensures { result ≡ only_mark office.0 }
@@ -54,6 +55,7 @@ fn settle_row(cells: &mut [u8], header: Header, by: Office, to: Office, before: 
 }
 
 // Weak local deletion: who lived on the cell lives on by i instead.
+// Kept: beside `sld`, which differs in its first step alone: what they share is `settle_row`.
 #[tactic(auto, using(buffers::proofs::Copy::kept_whole, crate::proofs::Local::emptied_readable, crate::proofs::Local::wld_made), unfolding(rows::specs::Whole::if_whole))]
 pub fn wld(cells: &mut [u8], header: Header, by: Office, to: Office)
     ensures { cells.new ≡ if_whole header cells.old (weak_local header cells.old by.0 to.0) }

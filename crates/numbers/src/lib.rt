@@ -17,6 +17,7 @@ fn extended(v: u16, b: u8) -> Option<u16>
 }
 
 // A number and LF, at the byte `at`: its value and where the next line starts.
+// Kept: a text and a place in it, in all readers of lines: what is told of a bad line is where it starts.
 pub fn number(text: &[u8], at: usize) -> Option<(u16, usize)>
     ensures { result ≡ line_read text.now (number_in (drop at text.now)) }
 {

@@ -13,6 +13,7 @@ ghost use Rattle.printing.specs.NumberLine.{line_bytes};
 use rights::Refusal;
 
 // What a writer answers: 0 or the refusal, and the length of what it wrote.
+// Kept: a number for the answer and a length beside the caller's buffer, since C reads this struct.
 #[repr(C)]
 #[derive(Clone, Copy)]
 pub struct Written {

@@ -14,6 +14,7 @@ use registers::Register;
 use rights::{Header, Office, Permission, Refusal};
 
 // What a question answers: 0 or the refusal, and of how many offices the chain is, 0 where it is refused.
+// Kept: a number for the answer and a length beside the caller's buffer, since C reads this struct.
 #[repr(C)]
 #[derive(Clone, Copy)]
 pub struct Held {
@@ -181,6 +182,7 @@ fn asked(
 }
 
 // The holding question. Refused, it leaves the buffer as it was; done, the chain stands at its start, and later bytes stay.
+// Kept: a number for the permission, since a question is put with any.
 pub fn holding(cells: &[u8], header: Header, office: Office, perm: u8, chain: &mut [u8]) -> Held
     ensures answer { result.answer ≡ (answered header cells.now office.0 perm chain.old).answer }
     ensures offices { result.offices ≡ (answered header cells.now office.0 perm chain.old).offices }

@@ -90,6 +90,7 @@ fn in_range(header: Header, told: Record) -> bool
 }
 
 // The byte of the record's cell.
+// Kept: a formula of its own, since a record need not name two offices of a register.
 #[tactic(auto, unfolding(crate::specs::Read::text_record, crate::specs::Stored::place_of))]
 fn place(header: Header, told: Record) -> usize
     ensures { result ≡ place_of header (text_record told) }

@@ -12,6 +12,7 @@ use registers::Register;
 use rights::{Act, Command, Header, Office, Permission, Refusal};
 
 // Refusal 4: the act of a command is one, and the permission is allowed for it.
+// Kept: a number for the permission, since a command has any, and 0 for none.
 #[tactic(auto, unfolding(rights::specs::Command::well_formed, rights::specs::Command::is_grant, rights::specs::Sound::unless))]
 fn well_formed(command: Command) -> Result<Act, Refusal>
     ensures answer { answer_of result ≡ unless (well_formed command) 4 }
@@ -37,6 +38,7 @@ fn in_range(header: Header, by: Office, to: Office) -> bool
 }
 
 // Refusals 4 to 7, which read the header and the command alone.
+// Kept: beside that of `questions`, since document 01 has other checks there, in another order.
 #[tactic(auto, unfolding(rights::specs::Command::form_refusal, rights::specs::Sound::first_of, rights::specs::Sound::unless))]
 fn form_refusal(header: Header, command: Command) -> Result<Act, Refusal>
     ensures answer { answer_of result ≡ form_refusal header command }

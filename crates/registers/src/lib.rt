@@ -38,14 +38,12 @@ impl<'a> Register<'a> {
 }
 
 // The cell of a grantor and a subject; empty where there are too few bytes, so that no caller has to know that there are not.
+#[tactic(auto, unfolding(rights::specs::Register::cell))]
 pub fn cell(cells: &[u8], header: Header, by: Office, to: Office) -> u8
     ensures { result ≡ cell_of header cells.now by.0 to.0 }
 {
     let at = by.0 as usize * header.n as usize + to.0 as usize;
-    if at < cells.len() {
-        return cells[at];
-    }
-    0
+    cells.get(at).copied().unwrap_or(0)
 }
 
 // Whether n is in 2..128 and SOA below n: refusal 1 does not apply.

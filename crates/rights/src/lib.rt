@@ -126,6 +126,7 @@ pub struct Header {
 }
 
 // One command to a register, as it was given: nothing of it is known to be in range.
+// Kept: numbers for the act and the permission, since C fills this struct in.
 #[repr(C)]
 #[derive(Clone, Copy, Default)]
 pub struct Command {
@@ -137,6 +138,7 @@ pub struct Command {
 }
 
 // A command of a run, with the place for its answer.
+// Kept: a number for the answer, since C reads this struct.
 #[repr(C)]
 #[derive(Clone, Copy)]
 pub struct Entry {
@@ -165,6 +167,7 @@ impl Tally {
 }
 
 // What taking in one command, or a whole run, hands back.
+// Kept: a number for the answer, since C reads this struct.
 #[repr(C)]
 #[derive(Clone, Copy)]
 pub struct Ran {

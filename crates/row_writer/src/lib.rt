@@ -35,6 +35,7 @@ fn cell_size(by: Office, to: Office, c: u8) -> usize
 }
 
 // How long the text of a row is.
+// Kept: beside `put_row`, since a row is measured whole before its first byte is written.
 fn row_size(register: &Register, row: Office) -> usize
     ensures { result ≡ length (row_text register.now.header register.now.cells.now row.0) }
 {

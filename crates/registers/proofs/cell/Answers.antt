@@ -14,11 +14,3 @@ pub overflow_add-at : goal.overflow_add-at
 overflow_add-at c =
     let a = c.args in
     omega (arith, product a.by.0 a.header.n (omega arith) (omega arith))
-
-pub returns-then-at-cells : goal.returns-then-at-cells
-unfolding cell
-returns-then-at-cells c = refl
-
-pub returns : goal.returns
-unfolding cell
-returns c = sym (get_or-eq_default c.args.cells.now 0 c.if-at-cells.false)

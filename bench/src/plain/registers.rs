@@ -24,10 +24,7 @@ impl<'a> Register<'a> {
 
 pub fn cell(cells: &[u8], header: Header, by: Office, to: Office) -> u8 {
     let at = by.0 as usize * header.n as usize + to.0 as usize;
-    if at < cells.len() {
-        return cells[at];
-    }
-    0
+    cells.get(at).copied().unwrap_or(0)
 }
 
 pub fn headed(header: Header) -> bool {

@@ -1,7 +1,8 @@
 //! The functions of `crates/commands/src/lib.rt`.
 
+use super::buffers::Kept;
 use super::rights::{Act, Command, Header};
-use super::{buffers, cuts, local, refusals, strong, sweeping, tally};
+use super::{cuts, local, refusals, strong, sweeping, tally};
 
 #[repr(C)]
 #[derive(Clone, Copy, Default, Debug, PartialEq, Eq)]
@@ -32,9 +33,9 @@ fn tallied(before: &[u8], after: &[u8], header: Header) -> Outcome {
 }
 
 fn accepted(cells: &mut [u8], header: Header, act: Act, command: Command) -> Outcome {
-    let before = buffers::copied(cells);
+    let before = Kept::of(cells);
     carry_out(cells, header, act, command);
-    tallied(&before[..cells.len()], cells, header)
+    tallied(before.cells(), cells, header)
 }
 
 pub fn command(cells: &mut [u8], header: Header, command: Command) -> Outcome {

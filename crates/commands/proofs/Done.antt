@@ -3,7 +3,7 @@ use Prim.Native.Nat.{ℕ}
 use mathlib.Core.Path.{◌≡◌, ◌∙◌}
 use mathlib.Core.Bool.{true}
 use mathlib.Core.List.{List}
-use lib.ListN.{length, take}
+use lib.ListN.{take}
 use borrow.Author.Tests.{eq-eqb, ne_eqb}
 use Rattle.rights.specs.declared.Header.{Header}
 use Rattle.rights.specs.declared.Command.{Command}
@@ -12,14 +12,13 @@ use Rattle.rights.specs.Refusal.{number}
 use Rattle.rights.specs.Sound.{whole}
 use Rattle.rights.specs.Command.{refusal, carried_out, refused, done, outcome}
 use Rattle.theory.proofs.Tests.{both}
-use Rattle.theory.proofs.Ready.{Ready, whole_length}
+use Rattle.theory.proofs.Ready.{Ready}
 use Rattle.theory.proofs.Refusals.{command_passed}
 use Rattle.theory.proofs.Refusal.{number-nonzero}
 use Rattle.theory.proofs.Outcome.{outcome-done, outcome_ready}
 use Rattle.rows.specs.Whole.{if_whole}
 use Rattle.tally.specs.Missing.{missing_if_whole}
-use Rattle.buffers.specs.Copy.{copy_of}
-use Rattle.local.proofs.Local.{Lent, lent}
+use Rattle.buffers.proofs.Copy.{kept_whole}
 use Rattle.commands.specs.declared.Outcome.{Outcome}
 use Rattle.commands.specs.Post.{Answers}
 
@@ -35,25 +34,19 @@ module _ (h : Header) (R : List ℕ) (c : Command) (none : refusal h R c ≡ 0) 
   whole_carried : whole h (carried_out h R c) ≡ true
   whole_carried = rw (outcome-done h R c (eq-eqb (refusal h R c) 0 none)) at (outcome_ready h R ready c).whole
 
-  -- the copy of the register before can be looked back at
-  pub looked_back : {S copy : List ℕ} → S ≡ if_whole h R (carried_out h R c) → copy ≡ copy_of R → Lent h R S copy
-  looked_back s p =
-      lent h R (carried_out h R c) (both ready.headed ready.whole) (whole_length h (carried_out h R c) whole_carried) s p
-
   -- an accepted command answers 0 and the records removed and added, and leaves the register that its act makes
   pub done_as :
-      {S copy B : List ℕ} {r : Outcome} → S ≡ if_whole h R (carried_out h R c) → copy ≡ copy_of R → B ≡ take (length S) copy →
-      (r.answer ≡ 0) × (r.removed ≡ missing_if_whole h B S) × (r.added ≡ missing_if_whole h S B) →
-      Answers (outcome h R c) r S
+      (B S : List ℕ) (r : Outcome) → S ≡ if_whole h R (carried_out h R c) → B ≡ take 16384 R →
+      r.answer ≡ 0 → r.removed ≡ missing_if_whole h B S → r.added ≡ missing_if_whole h S B → Answers (outcome h R c) r S
   unfolding outcome done if_whole missing_if_whole
-  done_as {S} s p b t =
+  done_as B S r s b answer removed added =
       let passes = eq-eqb (refusal h R c) 0 none in
-      let before = b ∙ (looked_back s p).same in
+      let before : B ≡ R = b ∙ kept_whole h R (both ready.headed ready.whole) in
       let head = ready.headed in
       let made : S ≡ carried_out h R c = s ∙ rw (head, ready.whole) in
       record {
-        answer = rw passes t.0;
-        removed = rw passes (t.1 ∙ rw (before, made, head, ready.whole, whole_carried));
-        added = rw passes (t.2 ∙ rw (before, made, head, ready.whole, whole_carried));
+        answer = rw passes answer;
+        removed = rw passes (removed ∙ rw (before, made, head, ready.whole, whole_carried));
+        added = rw passes (added ∙ rw (before, made, head, ready.whole, whole_carried));
         cells = rw passes made;
       }

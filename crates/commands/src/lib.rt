@@ -9,6 +9,7 @@ ghost use Rattle.rows.specs.Whole.{if_whole};
 ghost use Rattle.tally.specs.Missing.{missing_if_whole};
 ghost use Rattle.commands.specs.Post.{Answers};
 
+use buffers::Kept;
 use rights::{Act, Command, Header};
 
 // What a command answers: 0 or its refusal, and the records that it removed and added.
@@ -49,15 +50,15 @@ fn tallied(before: &[u8], after: &[u8], header: Header) -> Outcome
     }
 }
 
-// A command that nothing refuses: its deed, tallied against a copy of the register as the command found it.
+// A command that nothing refuses: its deed, tallied against the register as the command found it.
 fn accepted(cells: &mut [u8], header: Header, act: Act, command: Command) -> Outcome
     requires passed { refusal_of header cells.old command ≡ 0 }
     requires act { act_number act ≡ command.act }
     ensures { Answers (outcome header cells.old command) result cells.new }
 {
-    let before = buffers::copied(cells);
+    let before = Kept::of(cells);
     carry_out(cells, header, act, command);
-    tallied(&before[..cells.len()], cells, header)
+    tallied(before.cells(), cells, header)
 }
 
 // One command: the answer, the tally, and the register as the command leaves it.

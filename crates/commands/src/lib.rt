@@ -62,6 +62,7 @@ fn accepted(cells: &mut [u8], header: Header, act: Act, command: Command) -> Out
 }
 
 // One command: the answer, the tally, and the register as the command leaves it.
+// Kept: a header and a buffer, since any two are taken.
 #[tactic(auto, using(crate::proofs::Done::outcome_refused), unfolding(rights::specs::Command::refused))]
 pub fn command(cells: &mut [u8], header: Header, command: Command) -> Outcome
     ensures { Answers (outcome header cells.old command) result cells.new }

@@ -115,6 +115,7 @@ fn levels_without(register: &Register, out: u16) -> [u8; 128]
 }
 
 // The level of each office, and 0 after them; 0 for all where the header or the length is refused.
+// Kept: a header and a buffer, since any two are taken.
 #[tactic(auto, using(crate::proofs::Given::nobody_out), unfolding(crate::specs::Padded::padded_levels, crate::specs::Padded::padded))]
 pub fn levels(cells: &[u8], header: Header) -> [u8; 128]
     ensures { result ≡ padded_levels header cells.now }

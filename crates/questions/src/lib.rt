@@ -165,6 +165,7 @@ fn form_refusal(header: Header, office: Office, perm: u8, room: usize) -> Result
 }
 
 // The holding question: of how many offices the chain is, or the first refusal that applies.
+// Kept: a header and a buffer, since any two are taken.
 #[tactic(auto, using(theory::proofs::Refusal::passed_readable, crate::proofs::Refusals::formed, crate::proofs::Answered::answering))]
 fn asked(
     cells: &[u8],

@@ -148,6 +148,7 @@ fn scan(text: &[u8], start: usize, header: Header, cells: &mut [u8]) -> Result<R
 
 // The records of the text from the byte `start` on, up to the end line, and the buffer with these records alone; or where the bad
 // line starts, which leaves the buffer zero. A record that has no cell is left out: the reader of the register refuses it.
+// Kept: a header and a buffer, since what is read need not make a register.
 pub fn read_records(
     text: &[u8],
     start: usize,

@@ -70,6 +70,7 @@ fn read_header(text: &[u8]) -> Result<(Header, usize), usize>
 }
 
 // Refusals 1, 2, 6, 7 and 3, in this order, of a buffer with the records added and what was found of them.
+// Kept: a header and a buffer, until it is known that they make a register.
 fn judge(cells: &[u8], header: Header, found: RecordsEnd) -> Result<(), Refusal>
     ensures { answer_of result ≡ buffer_refusal header cells.now found.outside found.forbidden }
 {

@@ -9,6 +9,7 @@ ghost use Rattle.rights.specs.Sound.{headed as is_headed, whole as is_whole, rea
 use rights::{Header, Office};
 
 // A register that can be read: its header is one, and its bytes are as many as its cells.
+// Kept: a grantor and a subject apart, here and everywhere: each contract and each document names the two.
 #[derive(Clone, Copy)]
 pub struct Register<'a> {
     pub cells: &'a [u8],

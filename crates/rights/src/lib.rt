@@ -117,6 +117,7 @@ pub struct Layer(pub u16);
 
 // What a register's bytes do not say themselves: how many offices there are, which of them is the source of authority, and
 // whose layer it is.
+// Kept: a number of offices, with which an office is compared by its own number: a count is no office.
 #[repr(C)]
 #[derive(Clone, Copy, Default)]
 pub struct Header {

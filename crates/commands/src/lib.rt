@@ -13,6 +13,7 @@ use buffers::Kept;
 use rights::{Act, Command, Header};
 
 // What a command answers: 0 or its refusal, and the records that it removed and added.
+// Kept: a number for the answer and counts beside it, since C reads this struct.
 #[repr(C)]
 #[derive(Clone, Copy, Default)]
 pub struct Outcome {

@@ -48,13 +48,18 @@ const LEFT_OUT: [&str; 7] = [
 ];
 
 /// The words of a source as one string without blanks. Layout may break a list differently, so a comma before a closing bracket
-/// does not count.
+/// does not count. A model is of proofs alone, as a contract is.
 fn words(source: &str) -> String {
     let mut kept = String::new();
     let mut in_import = false;
-    for line in source.lines().map(str::trim) {
-        let left_out = in_import || LEFT_OUT.iter().any(|start| line.starts_with(start));
+    let mut in_model = false;
+    for whole in source.lines() {
+        let line = whole.trim();
+        in_model |= line.starts_with("impl Model for ");
+        let left_out =
+            in_import || in_model || LEFT_OUT.iter().any(|start| line.starts_with(start));
         in_import = (in_import || line.starts_with("use ")) && !line.ends_with(';');
+        in_model &= whole != "}";
         if !left_out {
             kept.extend(line.chars().filter(|c| !c.is_whitespace()));
         } else if line.starts_with("ensures ") && line.ends_with(';') {

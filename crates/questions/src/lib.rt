@@ -43,6 +43,7 @@ fn link_into(register: &Register, perm: Permission, set: &[bool; 128], x: u16, y
 }
 
 // The smallest office of the set to which x has such a link; n where there is none.
+// Kept: n for none and no `Option`, as in the definition of the chain, so that `write` has no case that cannot happen.
 fn first_into(register: &Register, perm: Permission, set: &[bool; 128], x: u16) -> u16
     ensures { result ≡ first_below register.now.header.n (link_into register.now.header register.now.cells.now perm set.now x) }
 {
@@ -104,6 +105,7 @@ fn put(chain: &mut [u8], at: u16, office: u16)
 
 // Writes the smallest chain of so many links from SOA into the set, and returns its last office. The chain to the set one link
 // nearer SOA, a call of its own, comes first, and its last office decides which office of this set is taken.
+// Kept: a recursion, since the forms of document 01 have one here.
 #[tactic(auto, using(registers::proofs::Bounds::readable_high, registers::proofs::Bounds::readable_inside))]
 fn write(
     register: &Register,

@@ -36,14 +36,14 @@ const CRATES: [&str; 29] = [
 ];
 
 /// What is no code of a function's body or a type: only Rattle has contracts and tactics, and each of the two says for itself what is
-/// derived. A list of imports that needs several lines ends with the line of its semicolon.
+/// derived, and ghost lines are for proofs. A list of imports that needs several lines ends with the line of its semicolon.
 const LEFT_OUT: [&str; 7] = [
     "//",
     "#[",
     "#![",
     "requires ",
     "ensures ",
-    "ghost use ",
+    "ghost ",
     "use ",
 ];
 
@@ -55,6 +55,10 @@ fn words(source: &str) -> String {
     for line in source.lines().map(str::trim) {
         let left_out = in_import || LEFT_OUT.iter().any(|start| line.starts_with(start));
         in_import = (in_import || line.starts_with("use ")) && !line.ends_with(';');
+        if line.starts_with("ensures ") && line.ends_with("};") {
+            // The contract ends the declaration of a trait's function.
+            kept.push(';');
+        }
         if !left_out {
             kept.extend(line.chars().filter(|c| !c.is_whitespace()));
         }

@@ -1,28 +1,40 @@
 //! The functions of `crates/buffers/src/lib.rt`.
 
-fn at_most(length: usize) -> usize {
-    if length < 16384 {
-        length
-    } else {
-        16384
-    }
-}
+use super::Model;
 
 pub fn copied(cells: &[u8]) -> [u8; 16384] {
     let mut copy = [0u8; 16384];
-    let end = at_most(cells.len());
-    let mut k = 0;
-    while k < end {
-        copy[k] = cells[k];
-        k += 1;
-    }
+    let end = cells.len().min(16384);
+    copy[..end].copy_from_slice(&cells[..end]);
     copy
 }
 
-pub fn clear(cells: &mut [u8]) {
-    let mut at = 0;
-    while at < cells.len() {
-        cells[at] = 0;
-        at += 1;
+pub struct Kept {
+    bytes: [u8; 16384],
+    length: usize,
+}
+
+impl Model for Kept {}
+
+impl Kept {
+    pub fn new() -> Kept {
+        Kept {
+            bytes: [0u8; 16384],
+            length: 0,
+        }
     }
+
+    pub fn keep(&mut self, cells: &[u8]) {
+        let length = cells.len().min(16384);
+        self.bytes[..length].copy_from_slice(&cells[..length]);
+        self.length = length;
+    }
+
+    pub fn cells(&self) -> &[u8] {
+        &self.bytes[..self.length]
+    }
+}
+
+pub fn clear(cells: &mut [u8]) {
+    cells.fill(0);
 }

@@ -1,17 +1,12 @@
 //! The functions of `crates/cuts/src/lib.rt`.
 
-use super::rights::{Header, Office};
+use super::rights::{Header, Office, Permission};
 use super::{cells, registers};
 
 fn store(cells: &mut [u8], header: Header, i: Office, j: Office, v: u8) {
-    let n = header.n as usize;
-    let x = i.0 as usize;
-    let y = j.0 as usize;
-    if x < n {
-        if y < n {
-            let k = x * n + y;
-            cells[k] = v;
-        }
+    if i.0 < header.n && j.0 < header.n {
+        let k = i.0 as usize * header.n as usize + j.0 as usize;
+        cells[k] = v;
     }
 }
 
@@ -21,26 +16,16 @@ pub fn empty_cell(cells: &mut [u8], header: Header, i: Office, j: Office) {
     }
 }
 
-fn record_of(perm: u8) -> u8 {
-    match perm {
-        8 => 8,
-        4 => 4,
-        2 => 2,
-        _ => 1,
-    }
-}
-
 pub fn add_record(cells: &mut [u8], header: Header, i: Office, j: Office, perm: u8) {
     if registers::readable(cells, header) {
         let c = registers::cell(cells, header, i, j);
-        store(cells, header, i, j, cells::union(c, record_of(perm)));
+        let record = Permission::decoded(perm).code();
+        store(cells, header, i, j, cells::union(c, record));
     }
 }
 
 fn hand_cell(cells: &mut [u8], header: Header, i: Office, j: Office, k: Office, before: &[u8]) {
-    let x = i.0;
-    let y = k.0;
-    if y != x {
+    if k != i {
         let gone = cells::without(
             registers::cell(before, header, j, k),
             registers::cell(cells, header, j, k),
@@ -51,17 +36,13 @@ fn hand_cell(cells: &mut [u8], header: Header, i: Office, j: Office, k: Office, 
 }
 
 fn hand_row(cells: &mut [u8], header: Header, i: Office, j: Office, before: &[u8]) {
-    let mut k = 0;
-    while k < header.n {
+    for k in 0..header.n {
         hand_cell(cells, header, i, j, Office(k), before);
-        k += 1;
     }
 }
 
 pub fn hand_over(cells: &mut [u8], header: Header, i: Office, j: Office, before: &[u8]) {
-    if registers::readable(before, header) {
-        if registers::readable(cells, header) {
-            hand_row(cells, header, i, j, before);
-        }
+    if registers::readable(before, header) && registers::readable(cells, header) {
+        hand_row(cells, header, i, j, before);
     }
 }

@@ -33,3 +33,6 @@ pub mod sound;
 pub mod strong;
 pub mod sweeping;
 pub mod tally;
+
+/// What says of a type what it stands for in proofs; there is nothing of it to run.
+pub trait Model {}

@@ -14,20 +14,21 @@ use Rattle.theory.proofs.Below.{below_or_not}
 use Rattle.theory.proofs.Ready.{few_cells}
 use Rattle.buffers.specs.Copy.{copy_of}
 
--- as many bytes as there is room for, and the zeros behind them
+-- as many bytes as there is room for
+both_ways : (R : List ℕ) (m : ℕ) → m ≡ min (length R) 16384 → take m R ≡ take 16384 R
+both_ways R m e =
+    ⊎_elim
+    (λ (l : length R < 16384).
+    let short : m ≡ length R = omega (arith, e) in
+    rw (short, take-length R, take_all 16384 R (omega arith)))
+    (λ (l : 16384 ≤ length R). let long : m ≡ 16384 = omega (arith, e) in rw long)
+    (below_or_not (length R) 16384)
+
+-- and the zeros behind them
 pub copy_start_of : (R : List ℕ) (end : ℕ) → end ≡ min (length R) 16384 → take end R ++ drop end (replicate 16384 0) ≡ copy_of R
 unfolding copy_of
 copy_start_of R end e =
-    ap₂ ◌++◌ (ap (λ z. take z R) e ∙ both_ways) (drop-replicate end 16384 0 ∙ ap (λ z. replicate z 0) (let same : 16384 - end ≡ 16384 - length R = omega arith in same))
-  where
-    both_ways : take (min (length R) 16384) R ≡ take 16384 R
-    both_ways =
-        ⊎_elim
-        (λ (l : length R < 16384).
-        let short : min (length R) 16384 ≡ length R = omega arith in
-        rw (short, take-length R, take_all 16384 R (omega arith)))
-        (λ (l : 16384 ≤ length R). let long : min (length R) 16384 ≡ 16384 = omega arith in rw long)
-        (below_or_not (length R) 16384)
+    ap₂ ◌++◌ (both_ways R end e) (drop-replicate end 16384 0 ∙ ap (λ z. replicate z 0) (let same : 16384 - end ≡ 16384 - length R = omega arith in same))
 
 -- a register of at most that many bytes is the start of its copy
 pub copy_start : (R : List ℕ) → length R ≤ 16384 → take (length R) (copy_of R) ≡ R
@@ -48,10 +49,9 @@ long_copy R l = rw (take_all 16384 R l) (length-append R (replicate (16384 - len
     none : ℕ
     none = 0
 
--- the part of the copy that is kept
-pub copy_kept : (R : List ℕ) (m : ℕ) → m ≡ min (length R) 16384 → take m (copy_of R) ≡ take 16384 R
-unfolding copy_of
-copy_kept R m e = take_at (take 16384 R) (replicate (16384 - length R) 0) m (length-take 16384 R ∙ omega (arith, e))
+-- the part of an array into which as many bytes were copied as there is room for
+pub part_kept : (R rest : List ℕ) (m : ℕ) → m ≡ min (length R) 16384 → take m (take m R ++ rest) ≡ take 16384 R
+part_kept R rest m e = take_at (take m R) rest m (length-take m R ∙ omega (arith, e)) ∙ both_ways R m e
 
 -- a register is kept whole
 pub kept_whole : (h : Header) (R : List ℕ) → readable h R ≡ true → take 16384 R ≡ R

@@ -1,7 +1,7 @@
 // The bytes of a register as a whole: copied, and cleared. Each function takes any buffer.
 #![tactic(auto)]
 
-ghost use Rattle.std.specs.Prelude.{ℕ, ◌≡◌, ◌≤◌, List, length, replicate, take};
+ghost use Rattle.std.specs.Prelude.{ℕ, ◌≡◌, ◌≤◌, List, [], length, replicate, take};
 ghost use Rattle.buffers.specs.Copy.{copy_of};
 
 use std::marker::Model;
@@ -33,15 +33,24 @@ impl Model for Kept {
 }
 
 impl Kept {
-    // Keeps the cells of a register, 16,384 at most.
-    #[tactic(auto, using(crate::proofs::Copy::copy_kept))]
-    pub fn of(cells: &[u8]) -> Kept
-        ensures { result ≡ take 16384 cells.now }
+    // Nothing is kept yet.
+    pub fn new() -> Kept
+        ensures { result ≡ [] }
     {
         Kept {
-            bytes: copied(cells),
-            length: cells.len().min(16384),
+            bytes: [0u8; 16384],
+            length: 0,
         }
+    }
+
+    // Keeps the cells of a register, 16,384 at most. They are written where the array lies, since it is slow to move.
+    #[tactic(auto, using(crate::proofs::Copy::part_kept))]
+    pub fn keep(&mut self, cells: &[u8])
+        ensures { self.new ≡ take 16384 cells.now }
+    {
+        let length = cells.len().min(16384);
+        self.bytes[..length].copy_from_slice(&cells[..length]);
+        self.length = length;
     }
 
     // The cells that are kept.

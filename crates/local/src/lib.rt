@@ -61,7 +61,8 @@ pub fn wld(cells: &mut [u8], header: Header, by: Office, to: Office)
     ensures { cells.new ≡ if_whole header cells.old (weak_local header cells.old by.0 to.0) }
 {
     if registers::readable(cells, header) {
-        let before = Kept::of(cells);
+        let mut before = Kept::new();
+        before.keep(cells);
         cuts::empty_cell(cells, header, by, to);
         settle_row(cells, header, by, to, before.cells());
     }
@@ -73,7 +74,8 @@ pub fn sld(cells: &mut [u8], header: Header, by: Office, to: Office)
     ensures { cells.new ≡ if_whole header cells.old (strong_local header cells.old by.0 to.0) }
 {
     if registers::readable(cells, header) {
-        let before = Kept::of(cells);
+        let mut before = Kept::new();
+        before.keep(cells);
         column_step(cells, header, by, to);
         settle_row(cells, header, by, to, before.cells());
     }

@@ -16,7 +16,8 @@ fn strong_round(cells: &mut [u8], header: Header, own: [u8; 128], before: &[u8])
     ensures after { cells.new ≡ strong_round header before.now own cells.old }
     ensures rests { result ≡ same_cells header cells.new cells.old }
 {
-    let kept = Kept::of(cells);
+    let mut kept = Kept::new();
+    kept.keep(cells);
     let lost = holdings::losers(before, cells, header);
     columns::restrict_columns(cells, header, lost, own);
     sweeping::sweep(cells, header);
@@ -43,7 +44,8 @@ pub fn sgd(cells: &mut [u8], header: Header, by: Office, to: Office)
     ensures { cells.new ≡ if_whole header cells.old (strong_global header cells.old by.0 to.0) }
 {
     if registers::readable(cells, header) {
-        let before = Kept::of(cells);
+        let mut before = Kept::new();
+        before.keep(cells);
         let own = levels::independent_levels(cells, header, by);
         local::column_step(cells, header, by, to);
         sweeping::sweep(cells, header);

@@ -56,7 +56,8 @@ fn accepted(cells: &mut [u8], header: Header, act: Act, command: Command) -> Out
     requires act { act_number act ≡ command.act }
     ensures { Answers (outcome header cells.old command) result cells.new }
 {
-    let before = Kept::of(cells);
+    let mut before = Kept::new();
+    before.keep(cells);
     carry_out(cells, header, act, command);
     tallied(before.cells(), cells, header)
 }

@@ -1,4 +1,4 @@
--- A copy that is made byte by byte into zeros, and a register as the start of its copy. Assumes nothing.
+-- A copy that is made byte by byte into zeros, and a register as the start of its copy.
 use Prim.Native.Nat.{ℕ, ◌-◌, ◌≤◌, ◌<◌, min}
 use native.Mathlib.Omega.{arith}
 use mathlib.Core.Path.{◌≡◌, refl, ap, ap₂, ◌∙◌}

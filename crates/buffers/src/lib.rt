@@ -8,6 +8,7 @@ use std::marker::Model;
 
 // The bytes of a register as it stands, since a deletion has to look back at it. A register has 16,384 bytes at most, so no more are
 // ever copied.
+// Kept: beside `Kept`, since the zeros behind the register are promised here alone.
 pub fn copied(cells: &[u8]) -> [u8; 16384]
     ensures { result ≡ copy_of cells.now }
 {

@@ -1,4 +1,4 @@
--- No second outcome: at most one list of bytes left behind satisfies the contract. Assumes nothing.
+-- No second outcome: at most one list of bytes left behind satisfies the contract.
 -- `Post` is the contract as the check reads it: of the lifetimes, the arguments, the result and the arguments at exit.
 use Prim.Native.Nat.{ℕ}
 use mathlib.Core.List.{List}

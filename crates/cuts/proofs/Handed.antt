@@ -1,4 +1,4 @@
--- A row that is handed over cell by cell. Assumes nothing.
+-- A row that is handed over cell by cell.
 use Prim.Native.Nat.{ℕ, ◌+◌, ◌*◌, ◌≤◌, ◌<◌, zero-le}
 use native.Mathlib.Nat.{mul-le-mul_right}
 use native.Mathlib.Omega.{arith}

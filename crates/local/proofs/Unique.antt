@@ -1,4 +1,4 @@
--- No second outcome: at most one result, or one list of bytes left behind, satisfies each contract. Assumes nothing.
+-- No second outcome: at most one result, or one list of bytes left behind, satisfies each contract.
 use Prim.Native.Nat.{ℕ}
 use mathlib.Core.List.{List}
 use denote.Ref.{MutBor, at_last}

@@ -1,4 +1,4 @@
--- A row of a register lent as a part, and put back. Assumes nothing.
+-- A row of a register lent as a part, and put back.
 use Prim.Native.Nat.{ℕ, ◌+◌, ◌-◌, ◌*◌, ◌≤◌, ◌<◌}
 use native.Mathlib.Omega.{arith}
 use native.Mathlib.Nat.{mul-le-mul, mul-le-mul_right}

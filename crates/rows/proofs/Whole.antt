@@ -1,4 +1,4 @@
--- Functions that change a register only where it is one, one after the other. Assumes nothing.
+-- Functions that change a register only where it is one, one after the other.
 use Prim.Native.Nat.{ℕ, ◌*◌}
 use mathlib.Core.Path.{◌≡◌}
 use mathlib.Core.Logic.{⊎_elim}

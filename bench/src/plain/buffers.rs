@@ -13,14 +13,18 @@ pub struct Kept {
     length: usize,
 }
 
-impl Model for Kept {}
-
 impl Kept {
-    pub fn of(cells: &[u8]) -> Kept {
+    pub fn new() -> Kept {
         Kept {
-            bytes: copied(cells),
-            length: cells.len().min(16384),
+            bytes: [0u8; 16384],
+            length: 0,
         }
+    }
+
+    pub fn keep(&mut self, cells: &[u8]) {
+        let length = cells.len().min(16384);
+        self.bytes[..length].copy_from_slice(&cells[..length]);
+        self.length = length;
     }
 
     pub fn cells(&self) -> &[u8] {

@@ -33,7 +33,8 @@ fn tallied(before: &[u8], after: &[u8], header: Header) -> Outcome {
 }
 
 fn accepted(cells: &mut [u8], header: Header, act: Act, command: Command) -> Outcome {
-    let before = Kept::of(cells);
+    let mut before = Kept::new();
+    before.keep(cells);
     carry_out(cells, header, act, command);
     tallied(before.cells(), cells, header)
 }

@@ -29,7 +29,8 @@ fn settle_row(cells: &mut [u8], header: Header, by: Office, to: Office, before: 
 
 pub fn wld(cells: &mut [u8], header: Header, by: Office, to: Office) {
     if registers::readable(cells, header) {
-        let before = Kept::of(cells);
+        let mut before = Kept::new();
+        before.keep(cells);
         cuts::empty_cell(cells, header, by, to);
         settle_row(cells, header, by, to, before.cells());
     }
@@ -37,7 +38,8 @@ pub fn wld(cells: &mut [u8], header: Header, by: Office, to: Office) {
 
 pub fn sld(cells: &mut [u8], header: Header, by: Office, to: Office) {
     if registers::readable(cells, header) {
-        let before = Kept::of(cells);
+        let mut before = Kept::new();
+        before.keep(cells);
         column_step(cells, header, by, to);
         settle_row(cells, header, by, to, before.cells());
     }

@@ -5,7 +5,8 @@ use super::rights::{Header, Office};
 use super::{columns, holdings, levels, local, registers, sweeping};
 
 fn strong_round(cells: &mut [u8], header: Header, own: [u8; 128], before: &[u8]) -> bool {
-    let kept = Kept::of(cells);
+    let mut kept = Kept::new();
+    kept.keep(cells);
     let lost = holdings::losers(before, cells, header);
     columns::restrict_columns(cells, header, lost, own);
     sweeping::sweep(cells, header);
@@ -22,7 +23,8 @@ fn rounds(cells: &mut [u8], header: Header, own: [u8; 128], before: &[u8]) {
 
 pub fn sgd(cells: &mut [u8], header: Header, by: Office, to: Office) {
     if registers::readable(cells, header) {
-        let before = Kept::of(cells);
+        let mut before = Kept::new();
+        before.keep(cells);
         let own = levels::independent_levels(cells, header, by);
         local::column_step(cells, header, by, to);
         sweeping::sweep(cells, header);

@@ -32,6 +32,7 @@ impl Levels for Marked {
 }
 
 // Each cell of a marked column to the level of its grantor.
+// Kept: a header and a buffer, since any two are taken.
 pub fn restrict_columns(cells: &mut [u8], header: Header, columns: [u8; 128], levels: [u8; 128])
     ensures { cells.new ≡ if_whole header cells.old (restricted header cells.old (columns_to (is_marked columns) levels)) }
 {

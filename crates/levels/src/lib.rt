@@ -28,6 +28,7 @@ fn linked(register: &Register, perm: Permission, marks: &[bool; 128], y: u16) ->
 }
 
 // Whether y is marked after the round. What is marked already needs no search.
+// Kept: an office below 128, asked here and in `links`: it is an index, and a type for it is longer than what it saves.
 #[tactic(auto, unfolding(rights::specs::Level::is_in, rights::specs::Level::other_than))]
 fn marked_next(register: &Register, out: u16, perm: Permission, marks: &[bool; 128], y: u16) -> bool
     requires { y < 128 }

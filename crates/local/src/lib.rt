@@ -34,6 +34,7 @@ fn level_at(levels: [u8; 128], office: Office) -> u8
 }
 
 // Each cell of column j to its grantor's level by chains that do not name i, so that the cell of i itself empties.
+// Kept: a header and a buffer, here and below, since any two are taken and the buffer is written.
 #[tactic(auto, using(crate::proofs::Made::column_step_made))]
 pub fn column_step(cells: &mut [u8], header: Header, by: Office, to: Office)
     ensures { cells.new ≡ if_whole header cells.old (column_step header cells.old by.0 to.0) }

@@ -88,6 +88,7 @@ fn put_register(page: &mut Page, register: &Register)
 // text is what the input has from the byte `at` on. A command has five keys and five LF, 26 bytes, so three for each byte hold every
 // answer.
 // Kept: a recursion over the rest of the text, as the definition's; a loop's invariant would say all that has been written so far.
+// Kept: a header and a buffer, since the commands write the buffer.
 fn put_commands(page: &mut Page, text: &[u8], at: usize, cells: &mut [u8], header: Header)
     requires { (register_refusal header cells.old ≡ 0) × (at + length text.now ≤ 65536) × HasRoom (3 * length text.now + 1441831) page.old }
     ensures { AddsWithin (3 * length text.now + 1441831) (commands_output header cells.old at text.now) page.old page.new }

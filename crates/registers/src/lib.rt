@@ -39,6 +39,7 @@ impl<'a> Register<'a> {
 }
 
 // The cell of a grantor and a subject; empty where there are too few bytes, so that no caller has to know that there are not.
+// Kept: a header and a buffer, here and below, since any two are taken.
 #[tactic(auto, unfolding(rights::specs::Register::cell))]
 pub fn cell(cells: &[u8], header: Header, by: Office, to: Office) -> u8
     ensures { result ≡ cell_of header cells.now by.0 to.0 }

@@ -10,6 +10,7 @@ use buffers::Kept;
 use rights::{Header, Office};
 
 // One round: the columns of those who have lost, and a sweep. It tells whether it altered nothing.
+// Kept: a header and a buffer, here and below, since the buffer is written.
 #[tactic(auto, using(buffers::proofs::Copy::kept_whole, crate::proofs::Alike::bytes_alike, crate::proofs::Made::round_made))]
 fn strong_round(cells: &mut [u8], header: Header, own: [u8; 128], before: &[u8]) -> bool
     requires { (readable header cells.old ≡ true) × (readable header before.now ≡ true) }

@@ -10,6 +10,7 @@ ghost use Rattle.rows.specs.Whole.{if_whole};
 use rights::{Header, Office};
 
 // Every row to the level of its grantor. All levels are taken before any row is restricted.
+// Kept: a header and a buffer, here and below, since any two are taken and the buffer is written.
 #[tactic(auto, using(crate::proofs::Swept::sweep_made))]
 pub fn sweep(cells: &mut [u8], header: Header)
     ensures { cells.new ≡ if_whole header cells.old (swept header cells.old) }

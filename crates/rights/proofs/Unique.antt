@@ -3,6 +3,8 @@
 use Prim.Native.Nat.{ℕ, ◌<◌}
 use native.Mathlib.Omega.{arith}
 use mathlib.Core.Path.{◌≡◌, refl, sym, ap, ◌∙◌}
+use mathlib.Core.List.{List, [], ◌∷◌}
+use lib.ListN.{get_or}
 use Rattle.std.specs.declared.result.Result.{Result}
 use Rattle.std.specs.declared.result.Result.TheVariants.{Ok, Err}
 use Rattle.rights.specs.declared.Permission.{Permission}
@@ -23,33 +25,21 @@ decoded_once κs a exit r s p q = p ∙ sym q
 pub number_once : (κs : _) (a : _) (exit : _) (r s : ℕ) → number.Post κs a r exit → number.Post κs a s exit → r ≡ s
 number_once κs a exit r s p q = p ∙ sym q
 
+-- the act of a number
+unfoldable act_at : ℕ → Act
+act_at k = get_or (Grant ∷ WLD ∷ WGD ∷ SLD ∷ SGD ∷ []) k Grant
+
+act_at-number : (a : Act) → act_at (act_number a) ≡ a
+unfolding act_at
+act_at-number Grant = refl
+act_at-number WLD = refl
+act_at-number WGD = refl
+act_at-number SLD = refl
+act_at-number SGD = refl
+
 -- no two acts have one number
 pub act_number-injective : (a b : Act) → act_number a ≡ act_number b → a ≡ b
-act_number-injective Grant Grant e = refl
-act_number-injective Grant WLD e = absurd (omega arith)
-act_number-injective Grant WGD e = absurd (omega arith)
-act_number-injective Grant SLD e = absurd (omega arith)
-act_number-injective Grant SGD e = absurd (omega arith)
-act_number-injective WLD Grant e = absurd (omega arith)
-act_number-injective WLD WLD e = refl
-act_number-injective WLD WGD e = absurd (omega arith)
-act_number-injective WLD SLD e = absurd (omega arith)
-act_number-injective WLD SGD e = absurd (omega arith)
-act_number-injective WGD Grant e = absurd (omega arith)
-act_number-injective WGD WLD e = absurd (omega arith)
-act_number-injective WGD WGD e = refl
-act_number-injective WGD SLD e = absurd (omega arith)
-act_number-injective WGD SGD e = absurd (omega arith)
-act_number-injective SLD Grant e = absurd (omega arith)
-act_number-injective SLD WLD e = absurd (omega arith)
-act_number-injective SLD WGD e = absurd (omega arith)
-act_number-injective SLD SLD e = refl
-act_number-injective SLD SGD e = absurd (omega arith)
-act_number-injective SGD Grant e = absurd (omega arith)
-act_number-injective SGD WLD e = absurd (omega arith)
-act_number-injective SGD WGD e = absurd (omega arith)
-act_number-injective SGD SLD e = absurd (omega arith)
-act_number-injective SGD SGD e = refl
+act_number-injective a b e = sym (act_at-number a) ∙ (ap act_at e ∙ act_at-number b)
 
 act_number-small : (a : Act) → act_number a < 5
 act_number-small Grant = omega arith

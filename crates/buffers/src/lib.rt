@@ -1,4 +1,4 @@
-// The bytes of a register as a whole: copied, and cleared. Each function takes any buffer.
+// The bytes of a register as a whole: kept as they stand, copied, and cleared. Each function takes any buffer.
 #![tactic(auto)]
 
 ghost use Rattle.std.specs.Prelude.{ℕ, ◌≡◌, ◌≤◌, List, [], length, replicate, take};
@@ -8,7 +8,7 @@ use std::marker::Model;
 
 // The bytes of a register as it stands, since a deletion has to look back at it. A register has 16,384 bytes at most, so no more are
 // ever copied.
-// Kept: beside `Kept`, since the zeros behind the register are promised here alone.
+// Kept: its clause and `copied_once` promise the zeros behind the register; no code of the project needs them.
 pub fn copied(cells: &[u8]) -> [u8; 16384]
     ensures { result ≡ copy_of cells.now }
 {
@@ -19,6 +19,7 @@ pub fn copied(cells: &[u8]) -> [u8; 16384]
 }
 
 // A register as it stood: the copy of it that a deletion looks back at.
+// Kept: an array with its length beside it, since there is no heap.
 #[derive(Drop)]
 pub struct Kept {
     bytes: [u8; 16384],

@@ -55,6 +55,7 @@ pub fn enough(perm: u8, level: u8) -> bool
 
 // What a level leaves of the cell: nothing at 0, TF and FF alone at 1, all of it from 2 on. A record that is lowered merges with its
 // equal, so two bits make one.
+// Kept: a number for a level, which is compared, and of which any byte is taken.
 pub fn restrict(c: u8, level: u8) -> u8
     ensures { result ≡ restrict_cell c level }
 {

@@ -23,6 +23,7 @@ pub struct Outcome {
 }
 
 // The act of the command is done.
+// Kept: a match, since there are five acts and no others; and a header and a buffer, here and below, since the buffer is written.
 #[tactic(auto, unfolding(rights::specs::Command::carried_out, rights::specs::Command::is_grant))]
 fn carry_out(cells: &mut [u8], header: Header, act: Act, command: Command)
     requires { act_number act ≡ command.act }
@@ -63,7 +64,7 @@ fn accepted(cells: &mut [u8], header: Header, act: Act, command: Command) -> Out
 }
 
 // One command: the answer, the tally, and the register as the command leaves it.
-// Kept: a header and a buffer, since any two are taken.
+// Kept: a header and a buffer, here and above, since the contract is about any two.
 #[tactic(auto, using(crate::proofs::Done::outcome_refused), unfolding(rights::specs::Command::refused))]
 pub fn command(cells: &mut [u8], header: Header, command: Command) -> Outcome
     ensures { Answers (outcome header cells.old command) result cells.new }

@@ -90,7 +90,7 @@ impl<'a> Change<'a> {
 }
 
 // The offices that hold fewer permissions after than before, each marked 1; nobody where either register cannot be read.
-// Kept: a header and two buffers, since any three are taken.
+// Kept: a header and two buffers, since the contract is about any three.
 #[tactic(auto, using(crate::proofs::Marks::losers_marked, crate::proofs::Marks::none_before, crate::proofs::Marks::none_after), unfolding(levels::specs::Padded::padded))]
 pub fn losers(before: &[u8], after: &[u8], header: Header) -> [u8; 128]
     ensures { result ≡ padded_losers header before.now after.now }

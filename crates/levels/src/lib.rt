@@ -38,7 +38,7 @@ fn marked_next(register: &Register, out: u16, perm: Permission, marks: &[bool; 1
 }
 
 // One round. It reads the marks as they were before it, so the new ones are an array of their own.
-// Kept: a loop, here and where other arrays are filled: a function that takes what is filled in is longer than it.
+// Kept: a loop, here and where other arrays are filled: a helper with a closure has more lines of contract than this loop has of code.
 #[tactic(auto, using(registers::proofs::Bounds::readable_high, crate::proofs::Padded::filling))]
 fn round(register: &Register, out: u16, perm: Permission, marks: &[bool; 128]) -> [bool; 128]
     ensures { result ≡ padded false (marking register.now.header register.now.cells.now (other_than out) perm marks.now) }
@@ -51,6 +51,7 @@ fn round(register: &Register, out: u16, perm: Permission, marks: &[bool; 128]) -
 }
 
 // The marks before the first round: SOA alone, or nobody where SOA is left out.
+// Kept: a loop-free set of one office, as those of `questions` and `local`, each with a case of its own: left out, required, or past the last.
 #[tactic(auto, using(registers::proofs::Bounds::readable_high, registers::proofs::Bounds::readable_inside, crate::proofs::Rounds::first_marks))]
 fn first(register: &Register, out: u16) -> [bool; 128]
     ensures { result ≡ padded false (table register.now.header.n (marked_first register.now.header (other_than out))) }
@@ -106,6 +107,7 @@ fn levels_by(n: u16, whole: &[bool; 128], part: &[bool; 128]) -> [u8; 128]
 }
 
 // The levels by chains that do not name one office. A number of no office leaves nobody out, so this serves both questions below.
+// Kept: a number for who is left out, which may be that of no office: the definition `independent_levels` takes one.
 #[tactic(auto, using(registers::proofs::Bounds::readable_high, crate::proofs::Given::levels_by_marks), unfolding(crate::proofs::Rounds::marks_after))]
 fn levels_without(register: &Register, out: u16) -> [u8; 128]
     ensures { result ≡ padded 0 (independent_levels register.now.header register.now.cells.now out) }
@@ -116,7 +118,7 @@ fn levels_without(register: &Register, out: u16) -> [u8; 128]
 }
 
 // The level of each office, and 0 after them; 0 for all where the header or the length is refused.
-// Kept: a header and a buffer, since any two are taken.
+// Kept: a header and a buffer, here and above, since the contract is about any two.
 #[tactic(auto, using(crate::proofs::Given::nobody_out), unfolding(crate::specs::Padded::padded_levels, crate::specs::Padded::padded))]
 pub fn levels(cells: &[u8], header: Header) -> [u8; 128]
     ensures { result ≡ padded_levels header cells.now }
@@ -129,6 +131,7 @@ pub fn levels(cells: &[u8], header: Header) -> [u8; 128]
 
 // The level of each office by chains that do not name the given one, and 0 after them; 0 for all where the header or the length
 // is refused.
+// Kept: beside `levels`: both are public, and each is a match over `levels_without`.
 #[tactic(auto, unfolding(crate::specs::Padded::padded_independent, crate::specs::Padded::padded))]
 pub fn independent_levels(cells: &[u8], header: Header, office: Office) -> [u8; 128]
     ensures { result ≡ padded_independent header cells.now office.0 }

@@ -1,4 +1,4 @@
-// One line of the text: its value, and where in the text the next line starts; or that it is bad.
+// One line of the text: its value and where in the text the next line starts, or nothing where it is bad.
 // A line reader says no more of a bad line, since its caller knows where the line starts.
 #![tactic(auto)]
 
@@ -80,6 +80,7 @@ fn perm(text: &[u8], at: usize) -> Option<(u16, usize)>
 }
 
 // The key of the kind.
+// Kept: a match, here and in `value`, since there are seven kinds and no others.
 #[tactic(auto, unfolding(crate::specs::Read::kind_of, wording::specs::Word::key))]
 fn key(kind: LineKind) -> &'static [u8]
     ensures { result.now ≡ key_of (kind_of kind) }

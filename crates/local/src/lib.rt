@@ -45,6 +45,7 @@ pub fn column_step(cells: &mut [u8], header: Header, by: Office, to: Office)
 
 // Row j to the level that the column step has left j, and what it lost by that to i. `before` is the register as the command found
 // it.
+// Kept: the register before as bytes that can be read, since `hand_over` takes bytes.
 #[tactic(auto, using(crate::proofs::Made::settle_made))]
 fn settle_row(cells: &mut [u8], header: Header, by: Office, to: Office, before: &[u8])
     requires { (readable header cells.old ≡ true) × (readable header before.now ≡ true) }

@@ -28,7 +28,7 @@ fn put_answer(page: &mut Page, done: Outcome)
 }
 
 // Writes that a text is refused, and where in the input its first bad line starts.
-// Kept: a number for the refusal, as the readers of texts give it, whose structs C reads.
+// Kept: a number for the refusal, here and where a reader's answer is tested: the readers are public and give what C reads.
 fn put_refused(page: &mut Page, number: u8, at: usize)
     requires { HasRoom 33 page.old × (at ≤ 65536) }
     ensures { AddsWithin 33 (refused_text number at) page.old page.new }

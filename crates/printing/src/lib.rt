@@ -110,8 +110,8 @@ pub fn write_bytes(text: &[u8], room: &mut [u8]) -> Written
     Written::from(Ok(page.at))
 }
 
-// How much of a room lines leave; nothing where they are longer. Each is held against what the one before it leaves, since the lengths
-// of slices may have no sum.
+// How much of a room lines leave; nothing where they are longer. Each is held against what the one before it leaves, since the sum
+// of their lengths may not fit.
 fn left_behind(lines: &[Line], room: usize) -> Option<usize>
     ensures { MatchOption result (room < length (flat_map line_bytes lines.now)) (λ left. left + length (flat_map line_bytes lines.now) ≡ room) }
 {

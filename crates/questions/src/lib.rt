@@ -150,6 +150,7 @@ fn search(
 }
 
 // The first of refusals 4, 6 and 11 that applies.
+// Kept: a number for the permission, here and below, since a question is put with any; and checks of its own, as document 01 has them.
 #[tactic(auto, unfolding(rights::specs::Question::question_form_refusal, rights::specs::Sound::first_of, rights::specs::Sound::unless))]
 fn form_refusal(header: Header, office: Office, perm: u8, room: usize) -> Result<(), Refusal>
     ensures { answer_of result ≡ question_form_refusal header office.0 perm room }
@@ -167,7 +168,7 @@ fn form_refusal(header: Header, office: Office, perm: u8, room: usize) -> Result
 }
 
 // The holding question: of how many offices the chain is, or the first refusal that applies.
-// Kept: a header and a buffer, since any two are taken.
+// Kept: a header and a buffer, here and above, since the contract is about any two.
 #[tactic(auto, using(theory::proofs::Refusal::passed_readable, crate::proofs::Refusals::formed, crate::proofs::Answered::answering))]
 fn asked(
     cells: &[u8],
@@ -185,7 +186,6 @@ fn asked(
 }
 
 // The holding question. Refused, it leaves the buffer as it was; done, the chain stands at its start, and later bytes stay.
-// Kept: a number for the permission, since a question is put with any.
 pub fn holding(cells: &[u8], header: Header, office: Office, perm: u8, chain: &mut [u8]) -> Held
     ensures answer { result.answer ≡ (answered header cells.now office.0 perm chain.old).answer }
     ensures offices { result.offices ≡ (answered header cells.now office.0 perm chain.old).offices }

@@ -45,6 +45,7 @@ fn to_may(last: Record, by: Office, to: Office) -> bool
 }
 
 // Whether one with this `perm=` may: `none` may not, and none that was told before.
+// Kept: a number for the permission, since a line has one and the record before the first has 16.
 #[tactic(auto, unfolding(wording::specs::Records::perm_may, crate::specs::Read::text_record))]
 fn perm_may(last: Record, by: Office, to: Office, perm: u16) -> bool
     ensures { result ≡ perm_may (text_record last) by.0 to.0 perm }
@@ -90,7 +91,7 @@ fn in_range(header: Header, told: Record) -> bool
 }
 
 // The byte of the record's cell.
-// Kept: a formula of its own, since a record need not name two offices of a register.
+// Kept: the formula of `cell` in `registers`, which gives the cell and not where it stands.
 #[tactic(auto, unfolding(crate::specs::Read::text_record, crate::specs::Stored::place_of))]
 fn place(header: Header, told: Record) -> usize
     ensures { result ≡ place_of header (text_record told) }
@@ -109,6 +110,7 @@ fn store(cells: &mut [u8], header: Header, told: Record)
 }
 
 // What stands in for the record before the first one: every record comes after it.
+// Kept: no default, since its permission is above all four.
 #[tactic(auto, unfolding(wording::specs::Records::first, crate::specs::Read::text_record))]
 fn before_all() -> Record
     ensures { text_record result ≡ first }

@@ -86,7 +86,7 @@ fn deletion_refusal(register: &Register, command: Command) -> Result<(), Refusal
 }
 
 // The first refusal that applies, and the act that is to be carried out where none does.
-// Kept: a header and a buffer, since any two are taken.
+// Kept: a header and a buffer, here and above, since the contract is about any two.
 #[tactic(auto, using(theory::proofs::Refusal::passed_readable, theory::proofs::Refusal::refused_first, theory::proofs::Refusal::passed_first, crate::proofs::Refusals::form_by, crate::proofs::Refusals::grant_decides), unfolding(rights::specs::Command::refusal))]
 pub fn refusal(cells: &[u8], header: Header, command: Command) -> Result<Act, Refusal>
     ensures answer { answer_of result ≡ refusal_of header cells.now command }

@@ -1,4 +1,4 @@
-// The words of a rights register: offices, layers, the header of a register and a command to it.
+// The words of a rights register: permissions, acts, refusals, offices, layers, the header of a register, a command to it, and tallies.
 // Offices and layers are types of their own, so that neither is ever taken for the other.
 #![tactic(auto)]
 

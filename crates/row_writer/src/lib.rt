@@ -48,7 +48,7 @@ fn row_size(register: &Register, row: Office) -> usize
 }
 
 // Writes the grantor's and the subject's line of a record.
-// Kept: the two lines behind a writer, here and in `put_perm`: a function that takes the writer needs more clauses than they are lines.
+// Kept: two lines for a writer, here and in `put_perm`: a helper that takes the writer has more clauses than these have lines.
 fn put_pair(page: &mut Page, by: Office, to: Office)
     requires { Fits (pair_text by.0 to.0) page.old }
     ensures { Adds (pair_text by.0 to.0) page.old page.new }
@@ -125,7 +125,7 @@ fn try_row(cells: &[u8], header: Header, row: Office, room: &mut [u8]) -> Result
 }
 
 // The records of one office, as grantor.
-// Kept: a header and a buffer, since any two are taken.
+// Kept: a header and a buffer, here and above, since the contract is about any two.
 pub fn write_row(cells: &[u8], header: Header, row: Office, room: &mut [u8]) -> Written
     ensures { Told (row_written header cells.now row.0 room.old) result room.new }
 {

@@ -20,7 +20,7 @@ fn take_in(cells: &mut [u8], header: Header, command: Command, tally: Tally) -> 
 
 // The run itself: more than 256 are refused before anything is done, and else each command is carried out in turn and its
 // answer is set.
-// Kept: a header and a buffer, since any two are taken.
+// Kept: a header and a buffer, here and above, since the contract is about any two.
 pub fn run(cells: &mut [u8], header: Header, entries: &mut [Entry]) -> Ran
     ensures { RanAs (run_outcome header cells.old entries.old) result cells.new entries.new }
 {

@@ -40,7 +40,7 @@ fn sound_by(register: &Register, levels: &[u8; 128]) -> bool
 }
 
 // The refusal of a register by itself: its header is none, its length another, or it is not sound.
-// Kept: a header and a buffer, since any two are taken.
+// Kept: a header and a buffer, here and above, since the contract is about any two.
 pub fn register_refusal(cells: &[u8], header: Header) -> Result<(), Refusal>
     ensures { answer_of result ≡ register_refusal header cells.now }
 {

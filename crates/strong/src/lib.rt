@@ -26,6 +26,7 @@ fn strong_round(cells: &mut [u8], header: Header, own: [u8; 128], before: &[u8])
 }
 
 // Rounds until one alters nothing, n of them at most.
+// Kept: the register before as bytes that can be read, here and above, since `losers` takes bytes.
 #[tactic(auto, using(crate::proofs::Rest::none_left, crate::proofs::Rest::last_round, crate::proofs::Rest::next_round, crate::proofs::Rest::round_readable))]
 fn rounds(cells: &mut [u8], header: Header, own: [u8; 128], before: &[u8])
     requires { (readable header cells.old ≡ true) × (readable header before.now ≡ true) }

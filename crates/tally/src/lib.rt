@@ -22,7 +22,7 @@ fn count_missing(before: &[u8], after: &[u8]) -> u32
 }
 
 // How many records stood before and do not stand after.
-// Kept: a header and two buffers, since any three are taken.
+// Kept: a header and two buffers, since the contract is about any three.
 #[tactic(auto, using(theory::proofs::Ready::few_cells, crate::proofs::Sum::missing_pairs), unfolding(crate::specs::Missing::missing_if_whole))]
 pub fn missing(before: &[u8], after: &[u8], header: Header) -> u32
     ensures { result ≡ missing_if_whole header before.now after.now }

@@ -12,7 +12,7 @@ ghost use Rattle.cuts.specs.Stored.{stored, handed_at, if_both_whole};
 use rights::{Header, Office, Permission};
 
 // One cell is stored, if both are offices: a subject that is none would reach into another grantor's row.
-// Kept: a condition `Whole`, here and below: a struct of the `&mut` and the header would have to promise in each contract that both are still those it was given.
+// Kept: a condition, here and below: a struct with the `&mut` would have to promise each time that it is still the one it was given.
 fn store(cells: &mut [u8], header: Header, i: Office, j: Office, v: u8)
     requires { Whole header cells.old }
     ensures { cells.new ≡ stored header cells.old i.0 j.0 v }

@@ -51,7 +51,7 @@ fn round(register: &Register, out: u16, perm: Permission, marks: &[bool; 128]) -
 }
 
 // The marks before the first round: SOA alone, or nobody where SOA is left out.
-// Kept: a loop-free set of one office, as those of `questions` and `local`, each with a case of its own: left out, required, or past the last.
+// Kept: beside the sets of one office in `questions` and `local`: here it may be left out, there it is required or past the last.
 #[tactic(auto, using(registers::proofs::Bounds::readable_high, registers::proofs::Bounds::readable_inside, crate::proofs::Rounds::first_marks))]
 fn first(register: &Register, out: u16) -> [bool; 128]
     ensures { result ≡ padded false (table register.now.header.n (marked_first register.now.header (other_than out))) }

@@ -49,7 +49,7 @@ pub fn restrict_row(row: &mut [u8], level: u8)
 }
 
 // The row of grantor i is lent as a part of its own: the n cells from i·n on.
-// Kept: a condition `Whole`, here and below: a struct of the `&mut` and the header would have to promise in each contract that both are still those it was given.
+// Kept: a condition, here and below: a struct with the `&mut` would have to promise each time that it is still the one it was given.
 fn restrict_row_of<L: Levels>(cells: &mut [u8], header: Header, i: usize, levels: &L)
     requires { Whole header cells.old × (i < header.n) }
     ensures { cells.new ≡ restricted header cells.old (on_row i (L.level levels.now i)) }

@@ -95,6 +95,7 @@ fn show(rt: &impl Print, text: &[u8]) -> io::Result<()> {
 }
 
 // The longest of the damaged texts decides the room, and the others leave the end of it alone.
+// Kept: an array of which a part is used, since there is no heap.
 fn show_damaged(rt: &impl Print, damage: Damage, place: usize) -> io::Result<()> {
     let mut room = [0u8; A.len() + 1];
     let text = &mut room[..damage.length()];

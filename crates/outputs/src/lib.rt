@@ -47,6 +47,7 @@ fn put_row(page: &mut Page, register: &Register, row: Office)
 }
 
 // Writes the rows of all offices.
+// Kept: that the register is not refused, here and where else it is asked: the writer of a row gives its text only then.
 fn put_rows(page: &mut Page, register: &Register)
     requires { (register_refusal register.now.header register.now.cells.now ≡ 0) × HasRoom (11264 * register.now.header.n) page.old }
     ensures { AddsWithin (11264 * register.now.header.n) (joined register.now.header.n (row_text register.now.header register.now.cells.now)) page.old page.new }
@@ -107,6 +108,7 @@ fn put_commands(page: &mut Page, text: &[u8], at: usize, cells: &mut [u8], heade
 }
 
 // Writes what an input comes to: that it is too long, or the commands behind its register.
+// Kept: an array of which a part is used, since there is no heap.
 fn put_output(page: &mut Page, input: &[u8])
     requires { HasRoom 1700000 page.old }
     ensures { AddsWithin 1700000 (output input.now) page.old page.new }

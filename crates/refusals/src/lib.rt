@@ -31,6 +31,7 @@ fn well_formed(command: Command) -> Result<Act, Refusal>
 }
 
 // Whether both offices are in range.
+// Kept: beside that of `records`: one expression, here of a command and there of a record.
 fn in_range(header: Header, by: Office, to: Office) -> bool
     ensures { result ≡ ltb by.0 header.n && ltb to.0 header.n }
 {

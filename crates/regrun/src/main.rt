@@ -33,6 +33,7 @@ fn read_full<R: Read>(input: &mut R, buffer: &mut [u8]) -> usize
 }
 
 // One byte more is read than an input may have, so that one that is too long is seen to be.
+// Kept: arrays with lengths beside them, since there is no heap.
 fn main(rt: HostRuntime) -> io::Result<()> {
     let mut input = [0u8; 65537];
     let mut room = room();

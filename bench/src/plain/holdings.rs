@@ -25,7 +25,7 @@ impl<'a> Levelled<'a> {
     }
 
     fn holds(&self, perm: Permission, y: u16) -> bool {
-        Office(y) == self.register.header.soa
+        y == self.register.header.soa.0
             || (0..self.register.header.n).any(|x| self.passes_on(perm, y, x))
     }
 }

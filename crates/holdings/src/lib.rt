@@ -48,7 +48,7 @@ impl<'a> Levelled<'a> {
     fn holds(&self, perm: Permission, y: u16) -> bool
         ensures { result ≡ holds_by self.now.register.header self.now.register.cells.now self.now.levels perm y }
     {
-        Office(y) == self.register.header.soa
+        y == self.register.header.soa.0
             || (0..self.register.header.n).any(|x| self.passes_on(perm, y, x))
     }
 }

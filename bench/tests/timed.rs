@@ -18,7 +18,7 @@ fn registers_are_sound_and_every_office_holds_tt() {
         let made = register(kind, n);
         assert_eq!(
             register_refusal(&made.cells, made.header),
-            0,
+            Ok(()),
             "{kind:?} {n}"
         );
         let levels = levels(&made.cells, made.header);

@@ -1,7 +1,7 @@
 //! The Rattle code once more in plain Rust: the same functions, loops and copies, without contracts. Each file is one crate of
 //! `crates/`; `tests/same_code.rs` holds it to that crate, and `tests/beside_second.rs` holds what it answers to `second`.
 
-// Written as the Rattle code is, word by word: no iterators, no shorthand, and parameters that only a contract reads.
+// Written from the Rattle code by `tools/plain`, word by word, with parameters that only a contract reads.
 #![allow(clippy::all, unused_variables)]
 
 pub mod answers;

@@ -13,11 +13,13 @@ pub enum LineKind {
     Perm,
 }
 
+#[inline(always)]
 fn word(text: &[u8], at: usize, bytes: &[u8]) -> Option<usize> {
     let rest = text.get(at..)?.strip_prefix(bytes)?;
     Some(text.len() - rest.len())
 }
 
+#[inline(always)]
 fn choice(text: &[u8], at: usize, words: &[(&[u8], u16)]) -> Option<(u16, usize)> {
     for (bytes, v) in words {
         if let Some(next) = word(text, at, bytes) {
@@ -27,6 +29,7 @@ fn choice(text: &[u8], at: usize, words: &[(&[u8], u16)]) -> Option<(u16, usize)
     None
 }
 
+#[inline(always)]
 fn act(text: &[u8], at: usize) -> Option<(u16, usize)> {
     choice(
         text,
@@ -41,6 +44,7 @@ fn act(text: &[u8], at: usize) -> Option<(u16, usize)> {
     )
 }
 
+#[inline(always)]
 fn perm(text: &[u8], at: usize) -> Option<(u16, usize)> {
     choice(
         text,
@@ -55,6 +59,7 @@ fn perm(text: &[u8], at: usize) -> Option<(u16, usize)> {
     )
 }
 
+#[inline(always)]
 fn key(kind: LineKind) -> &'static [u8] {
     match kind {
         LineKind::N => b"n=",
@@ -67,6 +72,7 @@ fn key(kind: LineKind) -> &'static [u8] {
     }
 }
 
+#[inline(always)]
 fn value(text: &[u8], at: usize, kind: LineKind) -> Option<(u16, usize)> {
     match kind {
         LineKind::Act => act(text, at),
@@ -75,6 +81,7 @@ fn value(text: &[u8], at: usize, kind: LineKind) -> Option<(u16, usize)> {
     }
 }
 
+#[inline(always)]
 pub fn line(text: &[u8], at: usize, kind: LineKind) -> Option<(u16, usize)> {
     let start = word(text, at, key(kind))?;
     value(text, start, kind)

@@ -21,6 +21,8 @@ pub enum LineKind {
 }
 
 // Where the text goes on behind the word, if that stands at the byte `at`.
+// Part of its callers, here and below, so that each line compares with the bytes of its own words, which are known then.
+#[inline(always)]
 fn word(text: &[u8], at: usize, bytes: &[u8]) -> Option<usize>
     requires { 0 < length bytes.now }
     ensures { result ≡ word_read text.now (after_word bytes.now (drop at text.now)) }
@@ -31,6 +33,7 @@ fn word(text: &[u8], at: usize, bytes: &[u8]) -> Option<usize>
 
 // The number of the first of the words, each with its LF, that stands there, and where the next line starts.
 // Kept: numbers as values, since a line of any kind has one.
+#[inline(always)]
 fn choice(text: &[u8], at: usize, words: &[(&[u8], u16)]) -> Option<(u16, usize)>
     requires { All (λ w. 0 < length w.0.now) words.now }
     ensures { result ≡ line_read text.now (chosen_in words.now (drop at text.now)) }
@@ -44,6 +47,7 @@ fn choice(text: &[u8], at: usize, words: &[(&[u8], u16)]) -> Option<(u16, usize)
 }
 
 // One of the words for an act, and LF.
+#[inline(always)]
 #[tactic(auto, unfolding(wording::specs::Word::acts, wording::specs::Line::chosen, crate::specs::Read::chosen_in))]
 fn act(text: &[u8], at: usize) -> Option<(u16, usize)>
     ensures { result ≡ line_read text.now (chosen acts (drop at text.now)) }
@@ -62,6 +66,7 @@ fn act(text: &[u8], at: usize) -> Option<(u16, usize)>
 }
 
 // One of the words for a permission, or `none`, and LF.
+#[inline(always)]
 #[tactic(auto, unfolding(wording::specs::Word::perms, wording::specs::Line::chosen, crate::specs::Read::chosen_in))]
 fn perm(text: &[u8], at: usize) -> Option<(u16, usize)>
     ensures { result ≡ line_read text.now (chosen perms (drop at text.now)) }
@@ -81,6 +86,7 @@ fn perm(text: &[u8], at: usize) -> Option<(u16, usize)>
 
 // The key of the kind.
 // Kept: a match, here and in `value`, since there are seven kinds and no others.
+#[inline(always)]
 #[tactic(auto, unfolding(crate::specs::Read::kind_of, wording::specs::Word::key))]
 fn key(kind: LineKind) -> &'static [u8]
     ensures { result.now ≡ key_of (kind_of kind) }
@@ -97,6 +103,7 @@ fn key(kind: LineKind) -> &'static [u8]
 }
 
 // What stands behind the key: a number or one of the words, and LF.
+#[inline(always)]
 #[tactic(auto, unfolding(wording::specs::Word::form, wording::specs::Line::value_of, crate::specs::Read::kind_of))]
 fn value(text: &[u8], at: usize, kind: LineKind) -> Option<(u16, usize)>
     ensures { result ≡ line_read text.now (value_of (form (kind_of kind)) (drop at text.now)) }
@@ -109,6 +116,7 @@ fn value(text: &[u8], at: usize, kind: LineKind) -> Option<(u16, usize)>
 }
 
 // What stands at the byte `at` as a line of the kind: its value, and where the next line starts.
+#[inline(always)]
 pub fn line(text: &[u8], at: usize, kind: LineKind) -> Option<(u16, usize)>
     ensures { result ≡ line_at text.now at (kind_of kind) }
 {

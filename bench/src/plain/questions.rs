@@ -22,6 +22,7 @@ fn link_into(register: &Register, perm: Permission, set: &[bool; 128], x: u16, y
     set[y as usize] && carrying::carries_as(register.cell(Office(x), Office(y)), perm)
 }
 
+#[inline(never)]
 fn first_into(register: &Register, perm: Permission, set: &[bool; 128], x: u16) -> u16 {
     let n = register.header.n;
     (0..n)
@@ -29,6 +30,7 @@ fn first_into(register: &Register, perm: Permission, set: &[bool; 128], x: u16) 
         .unwrap_or(n)
 }
 
+#[inline(never)]
 fn nearer(register: &Register, perm: Permission, set: &[bool; 128]) -> [bool; 128] {
     let n = register.header.n;
     let mut near = [false; 128];

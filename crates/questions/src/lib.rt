@@ -44,6 +44,8 @@ fn link_into(register: &Register, perm: Permission, set: &[bool; 128], x: u16, y
 
 // The smallest office of the set to which x has such a link; n where there is none.
 // Kept: n for none and no `Option`, as in the definition of the chain, so that `write` has no case that cannot happen.
+// Not part of its callers, as `nearer` below: `write` calls itself for each link, and would have all their locals in each call.
+#[inline(never)]
 fn first_into(register: &Register, perm: Permission, set: &[bool; 128], x: u16) -> u16
     ensures { result ≡ first_below register.now.header.n (link_into register.now.header register.now.cells.now perm set.now x) }
 {
@@ -54,6 +56,7 @@ fn first_into(register: &Register, perm: Permission, set: &[bool; 128], x: u16) 
 }
 
 // The offices with a link into the set: one link nearer SOA.
+#[inline(never)]
 #[tactic(auto, using(registers::proofs::Bounds::readable_high, levels::proofs::Padded::filling, crate::proofs::Sets::leads_first), unfolding(rights::specs::Question::nearer, crate::proofs::Sets::leads))]
 fn nearer(register: &Register, perm: Permission, set: &[bool; 128]) -> [bool; 128]
     ensures { result ≡ padded false (nearer_soa register.now.header register.now.cells.now perm set.now) }

@@ -69,9 +69,18 @@ fn judge(cells: &[u8], header: Header, found: RecordsEnd) -> Result<(), Refusal>
 }
 
 fn read(text: &[u8], cells: &mut [u8]) -> Result<(Header, usize), Refused> {
-    let (header, start) = read_header(text).map_err(bad_line)?;
+    let (header, start) = match read_header(text) {
+        Ok(read) => read,
+        Err(line) => {
+            buffers::clear(cells);
+            return Err(bad_line(line));
+        }
+    };
     let found = records::read_records(text, start, header, cells).map_err(bad_line)?;
-    judge(cells, header, found)?;
+    if let Err(refusal) = judge(cells, header, found) {
+        buffers::clear(cells);
+        return Err(Refused::from(refusal));
+    }
     Ok((header, found.next))
 }
 
@@ -83,14 +92,11 @@ pub fn read_register(text: &[u8], cells: &mut [u8]) -> RegisterRead {
             header,
             next,
         },
-        Err(Refused { refusal, at }) => {
-            buffers::clear(cells);
-            RegisterRead {
-                answer: refusal.number(),
-                at,
-                header: Header::default(),
-                next: text.len(),
-            }
-        }
+        Err(Refused { refusal, at }) => RegisterRead {
+            answer: refusal.number(),
+            at,
+            header: Header::default(),
+            next: text.len(),
+        },
     }
 }

@@ -64,16 +64,16 @@ module _ (text buffer : List ℕ) (h : Header) (at : ℕ) where
   -- a bad line
   pub judged-bad :
       {line : ℕ} {cells : List ℕ} → RecordsTold (records_at text at h (length buffer)) (length buffer) (Err line) cells →
-      RegisterTold (behind_header_at text buffer h at) (register_not 13 line (length text)) (replicate (length cells) 0)
+      RegisterTold (behind_header_at text buffer h at) (register_not 13 line (length text)) cells
   unfolding read records_at found_at found_on answer_of cells_of behind_header_at with_header judged register_refused register_answer register_not
   judged-bad {line} {cells} told = go read refl
     where
-      go : (x : Reading (List Record)) → read ≡ x → RegisterTold (behind_header_at text buffer h at) (register_not 13 line (length text)) (replicate (length cells) 0)
+      go : (x : Reading (List Record)) → read ≡ x → RegisterTold (behind_header_at text buffer h at) (register_not 13 line (length text)) cells
       go (bad_at l) q =
           let answer : ◌≡◌ {A = Result RecordsEnd ℕ} (Err line) (Err (offset text l)) = rw q at told.answer in
           let zero : cells ≡ replicate (length buffer) 0 = rw q at told.buffer in
           let same : line ≡ offset text l = cc in
-          rw q record { answer = rw same refl; buffer = ap (λ n. replicate n 0) (ap length zero ∙ length-replicate (length buffer) 0) }
+          rw q record { answer = rw same refl; buffer = zero }
       go (got rs rest) q =
           let answer : ◌≡◌ {A = Result RecordsEnd ℕ} (Err line) (Ok (record { outside = any_record (outside h) rs; forbidden = any_record (forbidden h) rs; next = offset text rest })) =
           rw q at told.answer

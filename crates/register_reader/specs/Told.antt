@@ -33,11 +33,6 @@ unfoldable pub read_answer : List ℕ → Result (Header × ℕ) Refused → Reg
 read_answer text (Ok register) = record { answer = 0; at = 0; header = register.0; next = register.1 }
 read_answer text (Err refused) = register_not (number refused.refusal) refused.at (length text)
 
--- the buffer that the answer goes with: a refusal's is zero
-unfoldable pub cells_left : Result (Header × ℕ) Refused → List ℕ → List ℕ
-cells_left (Ok register) cells = cells
-cells_left (Err refused) cells = replicate (length cells) 0
-
 -- the answer and the buffer are those of the outcome
 pub record RegisterTold (o : Outcome) (r : RegisterRead) (cells : List ℕ) : Type 0 where
   pub answer : r ≡ register_answer o

@@ -5,7 +5,7 @@ ghost use Rattle.std.specs.Prelude.{◌≡◌};
 ghost use Rattle.rights.specs.declared.Refusal.TheVariants.{BadText};
 ghost use Rattle.rights.specs.Refusal.{answer_of};
 ghost use Rattle.wording.specs.RegisterReader.{register_read};
-ghost use Rattle.register_reader.specs.Told.{header_in, buffer_refusal, RegisterTold, read_answer, cells_left};
+ghost use Rattle.register_reader.specs.Told.{header_in, buffer_refusal, RegisterTold, read_answer};
 
 use lines::LineKind;
 use records::RecordsEnd;
@@ -90,13 +90,23 @@ fn judge(cells: &[u8], header: Header, found: RecordsEnd) -> Result<(), Refusal>
     sound::register_refusal(&cells[..size], header)
 }
 
-// The register, its bytes in the lent buffer, and where the rest starts. Refused, the buffer may hold any bytes.
+// The register, its bytes in the lent buffer, and where the rest starts; refused, the whole buffer zero. A bad record leaves it so, and
+// it may be long, so it is not cleared once more for that.
 fn read(text: &[u8], cells: &mut [u8]) -> Result<(Header, usize), Refused>
-    ensures { RegisterTold (register_read text.now cells.old) (read_answer text.now result) (cells_left result cells.new) }
+    ensures { RegisterTold (register_read text.now cells.old) (read_answer text.now result) cells.new }
 {
-    let (header, start) = read_header(text).map_err(bad_line)?;
+    let (header, start) = match read_header(text) {
+        Ok(read) => read,
+        Err(line) => {
+            buffers::clear(cells);
+            return Err(bad_line(line));
+        }
+    };
     let found = records::read_records(text, start, header, cells).map_err(bad_line)?;
-    judge(cells, header, found)?;
+    if let Err(refusal) = judge(cells, header, found) {
+        buffers::clear(cells);
+        return Err(Refused::from(refusal));
+    }
     Ok((header, found.next))
 }
 
@@ -111,14 +121,11 @@ pub fn read_register(text: &[u8], cells: &mut [u8]) -> RegisterRead
             header,
             next,
         },
-        Err(Refused { refusal, at }) => {
-            buffers::clear(cells);
-            RegisterRead {
-                answer: refusal.number(),
-                at,
-                header: Header::default(),
-                next: text.len(),
-            }
-        }
+        Err(Refused { refusal, at }) => RegisterRead {
+            answer: refusal.number(),
+            at,
+            header: Header::default(),
+            next: text.len(),
+        },
     }
 }

@@ -11,12 +11,11 @@ struct Levelled<'a> {
 }
 
 impl<'a> Levelled<'a> {
-    fn of(cells: &'a [u8], header: Header) -> Option<Levelled<'a>> {
-        let register = Register::of(cells, header)?;
-        Some(Levelled {
+    fn of(register: Register<'a>) -> Levelled<'a> {
+        Levelled {
             register,
-            levels: levels::levels(cells, header),
-        })
+            levels: levels::levels(register.cells, register.header),
+        }
     }
 
     fn passes_on(&self, perm: Permission, y: u16, x: u16) -> bool {
@@ -55,8 +54,12 @@ impl<'a> Change<'a> {
 }
 
 pub fn losers(before: &[u8], after: &[u8], header: Header) -> [u8; 128] {
-    match (Levelled::of(before, header), Levelled::of(after, header)) {
-        (Some(before), Some(after)) => Change { before, after }.losers(),
+    match (Register::of(before, header), Register::of(after, header)) {
+        (Some(before), Some(after)) => Change {
+            before: Levelled::of(before),
+            after: Levelled::of(after),
+        }
+        .losers(),
         _ => [0; 128],
     }
 }

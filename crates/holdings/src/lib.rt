@@ -21,16 +21,15 @@ struct Levelled<'a> {
 }
 
 impl<'a> Levelled<'a> {
-    // The register of a header and a buffer with its levels, where there is one.
-    fn of(cells: &'a [u8], header: Header) -> Option<Levelled<'a>>
-        ensures there { is_some result ≡ is_readable header cells.now }
-        ensures same { IfSome result (λ r. (r.register.header ≡ header) × (r.register.cells.now ≡ cells.now) × (r.levels ≡ padded_levels header cells.now)) }
+    // The register with its levels.
+    fn of(register: Register<'a>) -> Levelled<'a>
+        ensures same { (result.register.header ≡ register.entry.header) × (result.register.cells.now ≡ register.entry.cells.now) }
+        ensures levels { result.levels ≡ padded_levels register.entry.header register.entry.cells.now }
     {
-        let register = Register::of(cells, header)?;
-        Some(Levelled {
+        Levelled {
             register,
-            levels: levels::levels(cells, header),
-        })
+            levels: levels::levels(register.cells, register.header),
+        }
     }
 
     // Whether office x may pass the permission on to y and has a link there that carries it.
@@ -89,14 +88,19 @@ impl<'a> Change<'a> {
     }
 }
 
-// The offices that hold fewer permissions after than before, each marked 1; nobody where either register cannot be read.
+// The offices that hold fewer permissions after than before, each marked 1; nobody where either register cannot be read. Levels are
+// found once both can be read, since they cost more than all else here.
 // Kept: a header and two buffers, since the contract is about any three.
 #[tactic(auto, using(crate::proofs::Marks::losers_marked, crate::proofs::Marks::none_before, crate::proofs::Marks::none_after), unfolding(levels::specs::Padded::padded))]
 pub fn losers(before: &[u8], after: &[u8], header: Header) -> [u8; 128]
     ensures { result ≡ padded_losers header before.now after.now }
 {
-    match (Levelled::of(before, header), Levelled::of(after, header)) {
-        (Some(before), Some(after)) => Change { before, after }.losers(),
+    match (Register::of(before, header), Register::of(after, header)) {
+        (Some(before), Some(after)) => Change {
+            before: Levelled::of(before),
+            after: Levelled::of(after),
+        }
+        .losers(),
         _ => [0; 128],
     }
 }

@@ -1,9 +1,14 @@
 //! The functions of `crates/buffers/src/lib.rt`.
 
+fn copy_start(copy: &mut [u8], cells: &[u8]) -> usize {
+    let end = cells.len().min(copy.len());
+    copy[..end].copy_from_slice(&cells[..end]);
+    end
+}
+
 pub fn copied(cells: &[u8]) -> [u8; 16384] {
     let mut copy = [0u8; 16384];
-    let end = cells.len().min(16384);
-    copy[..end].copy_from_slice(&cells[..end]);
+    copy_start(&mut copy, cells);
     copy
 }
 
@@ -22,9 +27,7 @@ impl Kept {
     }
 
     pub fn keep(&mut self, cells: &[u8]) {
-        let length = cells.len().min(16384);
-        self.bytes[..length].copy_from_slice(&cells[..length]);
-        self.length = length;
+        self.length = copy_start(&mut self.bytes, cells);
     }
 
     pub fn cells(&self) -> &[u8] {

@@ -1,20 +1,30 @@
 // The bytes of a register as a whole: kept as they stand, copied, and cleared. Each function takes any buffer.
 #![tactic(auto)]
 
-ghost use Rattle.std.specs.Prelude.{ℕ, ◌≡◌, ◌≤◌, List, [], length, replicate, take};
+ghost use Rattle.std.specs.Prelude.{ℕ, ◌≡◌, ◌≤◌, List, [], ◌++◌, length, replicate, take, drop, min};
 ghost use Rattle.buffers.specs.Copy.{copy_of};
 
 use std::marker::Model;
 
+// Copies a register to the start of a longer buffer, as far as there is room for it, and gives how much that is.
+fn copy_start(copy: &mut [u8], cells: &[u8]) -> usize
+    ensures few { result ≡ min (length cells.now) (length copy.old) }
+    ensures start { copy.new ≡ take result cells.now ++ drop result copy.old }
+{
+    let end = cells.len().min(copy.len());
+    copy[..end].copy_from_slice(&cells[..end]);
+    end
+}
+
 // The bytes of a register as it stands, since a deletion has to look back at it. A register has 16,384 bytes at most, so no more are
 // ever copied.
-// Kept: its clause and `copied_once` promise the zeros behind the register; no code of the project needs them.
+// Kept: its clause and `copied_once` promise the zeros behind the register, which a deletion does not need: it keeps the bytes in a
+// `Kept`, by the same copy.
 pub fn copied(cells: &[u8]) -> [u8; 16384]
     ensures { result ≡ copy_of cells.now }
 {
     let mut copy = [0u8; 16384];
-    let end = cells.len().min(16384);
-    copy[..end].copy_from_slice(&cells[..end]);
+    copy_start(&mut copy, cells);
     copy
 }
 
@@ -50,9 +60,7 @@ impl Kept {
     pub fn keep(&mut self, cells: &[u8])
         ensures { self.new ≡ take 16384 cells.now }
     {
-        let length = cells.len().min(16384);
-        self.bytes[..length].copy_from_slice(&cells[..length]);
-        self.length = length;
+        self.length = copy_start(&mut self.bytes, cells);
     }
 
     // The cells that are kept.

@@ -92,3 +92,19 @@ fn try_lines(lines: &[Line], room: &mut [u8]) -> Result<usize, Refusal> {
 pub fn write_lines(lines: &[Line], room: &mut [u8]) -> Written {
     Written::from(try_lines(lines, room))
 }
+
+pub fn write_two(a: &[u8], x: u32, b: &[u8], y: u32, room: &mut [u8]) -> Written {
+    write_lines(&[Line(a, x), Line(b, y)], room)
+}
+
+pub fn write_three(
+    a: &[u8],
+    x: u32,
+    b: &[u8],
+    y: u32,
+    c: &[u8],
+    z: u32,
+    room: &mut [u8],
+) -> Written {
+    write_lines(&[Line(a, x), Line(b, y), Line(c, z)], room)
+}

@@ -103,7 +103,7 @@ fn put_commands(page: &mut Page, text: &[u8], at: usize, cells: &mut [u8], heade
     }
     let done = commands::command(cells, header, read.command);
     put_answer(page, done);
-    let rest = rests::rest_from(text, read.next);
+    let rest = rests::command_rest(text, read);
     put_commands(page, rest, at + read.next, cells, header);
 }
 
@@ -122,7 +122,7 @@ fn put_output(page: &mut Page, input: &[u8])
         return put_refused(page, read.answer, read.at);
     }
     let size = read.header.n as usize * read.header.n as usize;
-    let rest = rests::rest_from(input, read.next);
+    let rest = rests::register_rest(input, read);
     put_commands(page, rest, read.next, &mut buffer[..size], read.header);
 }
 

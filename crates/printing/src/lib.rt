@@ -2,13 +2,13 @@
 // is too small is left as it was; the methods of a page ask for the room.
 #![tactic(auto)]
 
-ghost use Rattle.std.specs.Prelude.{◌≡◌, [], ◌∷◌, ◌+◌, ◌<◌, length, MatchOption};
+ghost use Rattle.std.specs.Prelude.{◌≡◌, [], ◌∷◌, ◌++◌, ◌+◌, ◌<◌, length, MatchOption};
 ghost use Rattle.std.specs.List.{flat_map};
 ghost use Rattle.wording.specs.Line.{numeral};
 ghost use Rattle.wording.specs.Writer.{written_behind};
 ghost use Rattle.printing.specs.Told.{Told, IsWritten, written_of};
 ghost use Rattle.printing.specs.Page.{Fits, Adds};
-ghost use Rattle.printing.specs.NumberLine.{line_bytes};
+ghost use Rattle.printing.specs.NumberLine.{number_line, line_bytes};
 
 use rights::Refusal;
 
@@ -139,4 +139,18 @@ pub fn write_lines(lines: &[Line], room: &mut [u8]) -> Written
     ensures { Told (written_behind 0 room.old (flat_map line_bytes lines.now)) result room.new }
 {
     Written::from(try_lines(lines, room))
+}
+
+// Writes two lines, if there is room for them.
+pub fn write_two(a: &[u8], x: u32, b: &[u8], y: u32, room: &mut [u8]) -> Written
+    ensures { Told (written_behind 0 room.old (number_line a.now x ++ number_line b.now y)) result room.new }
+{
+    write_lines(&[Line(a, x), Line(b, y)], room)
+}
+
+// Writes three lines, if there is room for them.
+pub fn write_three(a: &[u8], x: u32, b: &[u8], y: u32, c: &[u8], z: u32, room: &mut [u8]) -> Written
+    ensures { Told (written_behind 0 room.old (number_line a.now x ++ (number_line b.now y ++ number_line c.now z))) result room.new }
+{
+    write_lines(&[Line(a, x), Line(b, y), Line(c, z)], room)
 }

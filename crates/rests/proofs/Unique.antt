@@ -6,6 +6,8 @@ use mathlib.Core.Path.{◌≡◌, sym, ap₂, ◌∙◌}
 use mathlib.Core.List.{List}
 use denote.Ref.{Bor}
 use Rattle.rests.proofs.rest_from.Reads as rest-from
+use Rattle.rests.proofs.register_rest.Reads as register-rest
+use Rattle.rests.proofs.command_rest.Reads as command-rest
 use Rattle.rests.proofs.after_register.Reads as after-register
 use Rattle.rests.proofs.after_command.Reads as after-command
 
@@ -20,6 +22,14 @@ place e f = ap₂ (λ (block offset : ℕ). (block, offset)) e f
 pub rest_from_once :
     (κs : _) (a : _) (r s : Bor (List ℕ)) (exit other : _) → rest-from.Post κs a r exit → rest-from.Post κs a s other → SamePart r s
 rest_from_once κs a r s exit other p q = (place (p.same_text ∙ sym q.same_text) (p.place ∙ sym q.place), p.bytes ∙ sym q.bytes)
+
+pub register_rest_once :
+    (κs : _) (a : _) (r s : Bor (List ℕ)) (exit other : _) → register-rest.Post κs a r exit → register-rest.Post κs a s other → SamePart r s
+register_rest_once κs a r s exit other p q = (place (p.same_text ∙ sym q.same_text) (p.place ∙ sym q.place), p.bytes ∙ sym q.bytes)
+
+pub command_rest_once :
+    (κs : _) (a : _) (r s : Bor (List ℕ)) (exit other : _) → command-rest.Post κs a r exit → command-rest.Post κs a s other → SamePart r s
+command_rest_once κs a r s exit other p q = (place (p.same_text ∙ sym q.same_text) (p.place ∙ sym q.place), p.bytes ∙ sym q.bytes)
 
 pub after_register_once :
     (κs : _) (a : _) (r s : Bor (List ℕ)) (exit other : _) → after-register.Post κs a r exit → after-register.Post κs a s other →

@@ -46,12 +46,12 @@ put_answer-requires t c = room_smaller 54 (omega arith) c.requires.2
 pub overflow_add-at-2 : goal.overflow_add-at-2
 overflow_add-at-2 t c =
     let read = c.read_command-read in
-    omega (arith, c.requires.1, rest_within c.args.text.now read.result read.ensures _ c.rest_from-rest.ensures.bytes)
+    omega (arith, c.requires.1, rest_within c.args.text.now read.result read.ensures _ c.command_rest-rest.ensures.bytes)
 
 pub put_commands-requires : goal.put_commands-requires
 put_commands-requires t c =
     let read = c.read_command-read in
-    let rest = c.rest_from-rest in
+    let rest = c.command_rest-rest in
     let good = c.if-read-ne0.false in
     let shorter = rest_shorter c.args.text.now read.result read.ensures rest.result.now rest.ensures.bytes good in
     let within = rest_within c.args.text.now read.result read.ensures rest.result.now rest.ensures.bytes in
@@ -68,7 +68,7 @@ put_commands-requires t c =
 pub returns : goal.returns
 returns t c =
     let read = c.read_command-read in
-    let rest = c.rest_from-rest in
+    let rest = c.command_rest-rest in
     let good = c.if-read-ne0.false in
     let shorter = rest_shorter c.args.text.now read.result read.ensures rest.result.now rest.ensures.bytes good in
     let same =

@@ -52,7 +52,7 @@ pub put_commands-requires : goal.put_commands-requires
 put_commands-requires c =
     let read = c.read_register-read in
     let good = c.if-read-ne0.false in
-    let rest = c.rest_from-rest in
+    let rest = c.register_rest-rest in
     let within = commands_within c.args.input.now (replicate 16384 0) read.result read.new.cells read.ensures good rest.result.now rest.ensures.bytes in (
       begun_accepted c.args.input.now (replicate 16384 0) read.result read.new.cells read.ensures good _ refl,
       omega (arith, within),
@@ -63,7 +63,7 @@ pub returns : goal.returns
 returns c =
     let read = c.read_register-read in
     let good = c.if-read-ne0.false in
-    let rest = c.rest_from-rest in
+    let rest = c.register_rest-rest in
     let within = commands_within c.args.input.now (replicate 16384 0) read.result read.new.cells read.ensures good rest.result.now rest.ensures.bytes in
     let same =
     begun c.args.input.now (replicate 16384 0) read.result read.new.cells read.ensures good rest.result.now rest.ensures.bytes _ refl

@@ -3,4 +3,4 @@ use Rattle.rests.proofs.Rest.{command_rest_told}
 use Rattle.rests.proofs.after_command.Goals as goal
 
 pub returns : goal.returns
-returns c = command_rest_told _ c.read_command.ensures c.rest_from.ensures
+returns c = command_rest_told _ c.read_command.ensures c.command_rest.ensures

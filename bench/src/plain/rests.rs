@@ -8,11 +8,11 @@ pub fn rest_from(text: &[u8], next: usize) -> &[u8] {
     &text[next.min(text.len())..]
 }
 
-pub fn register_rest(text: &[u8], read: RegisterRead) -> &[u8] {
+pub fn register_rest<'a>(text: &'a [u8], read: RegisterRead) -> &'a [u8] {
     rest_from(text, read.next)
 }
 
-pub fn command_rest(text: &[u8], read: CommandRead) -> &[u8] {
+pub fn command_rest<'a>(text: &'a [u8], read: CommandRead) -> &'a [u8] {
     rest_from(text, read.next)
 }
 

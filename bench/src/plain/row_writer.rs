@@ -1,6 +1,6 @@
 //! The functions of `crates/row_writer/src/lib.rt`.
 
-use super::printing::{Line, Page, Written};
+use super::printing::{Page, Written};
 use super::registers::Register;
 use super::rights::{Header, Office, Permission, Refusal};
 use super::{cells, numbers, printing, sound};
@@ -29,9 +29,8 @@ fn row_size(register: &Register, row: Office) -> usize {
 }
 
 fn put_pair(page: &mut Page, by: Office, to: Office) {
-    let pair = [Line(b"by=", by.0 as u32), Line(b"to=", to.0 as u32)];
     let room = &mut page.room[page.at..];
-    page.at += printing::write_lines(&pair, room).size;
+    page.at += printing::write_two(b"by=", by.0 as u32, b"to=", to.0 as u32, room).size;
 }
 
 fn put_perm(page: &mut Page, perm: Permission) {

@@ -6,7 +6,7 @@ ghost use Rattle.buffers.specs.Copy.{copy_of};
 
 use std::marker::Model;
 
-// Copies a register to the start of a longer buffer, as far as there is room for it, and gives how much that is.
+// Copies cells to the start of a buffer, as far as there is room, and gives how many.
 fn copy_start(copy: &mut [u8], cells: &[u8]) -> usize
     ensures few { result ≡ min (length cells.now) (length copy.old) }
     ensures start { copy.new ≡ take result cells.now ++ drop result copy.old }

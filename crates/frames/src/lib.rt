@@ -5,7 +5,7 @@
 ghost use Rattle.wording.specs.Writer.{header_written, end_written};
 ghost use Rattle.printing.specs.Told.{Told};
 
-use printing::{Line, Written};
+use printing::Written;
 use rights::{Header, Refusal};
 
 // The header of a register.
@@ -15,12 +15,10 @@ pub fn write_header(header: Header, room: &mut [u8]) -> Written
     if !registers::headed(header) {
         return Written::from(Err(Refusal::NoHeader));
     }
-    let lines = [
-        Line(b"n=", header.n as u32),
-        Line(b"soa=", header.soa.0 as u32),
-        Line(b"layer=", header.layer.0 as u32),
-    ];
-    printing::write_lines(&lines, room)
+    let n = header.n as u32;
+    let soa = header.soa.0 as u32;
+    let layer = header.layer.0 as u32;
+    printing::write_three(b"n=", n, b"soa=", soa, b"layer=", layer, room)
 }
 
 // The line behind the last row.

@@ -142,6 +142,7 @@ pub fn write_lines(lines: &[Line], room: &mut [u8]) -> Written
 }
 
 // Writes two lines, if there is room for them.
+// Kept: two lines and three, here and below, since documents promise both.
 pub fn write_two(a: &[u8], x: u32, b: &[u8], y: u32, room: &mut [u8]) -> Written
     ensures { Told (written_behind 0 room.old (number_line a.now x ++ number_line b.now y)) result room.new }
 {

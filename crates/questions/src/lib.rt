@@ -44,7 +44,7 @@ fn link_into(register: &Register, perm: Permission, set: &[bool; 128], x: u16, y
 
 // The smallest office of the set to which x has such a link; n where there is none.
 // Kept: n for none and no `Option`, as in the definition of the chain, so that `write` has no case that cannot happen.
-// Not part of its callers, as `nearer` below: `write` calls itself for each link, and would have all their locals in each call.
+// Neither this nor `nearer` below is made part of its callers: `write` calls itself for each link, and each call would have their locals.
 #[inline(never)]
 fn first_into(register: &Register, perm: Permission, set: &[bool; 128], x: u16) -> u16
     ensures { result ≡ first_below register.now.header.n (link_into register.now.header register.now.cells.now perm set.now x) }

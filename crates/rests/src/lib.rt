@@ -17,14 +17,15 @@ pub fn rest_from(text: &[u8], next: usize) -> &[u8]
 }
 
 // The rest of the caller's text behind a register, and the empty part at its end where the reader refused.
-pub fn register_rest(text: &[u8], read: RegisterRead) -> &[u8]
+// Kept: one for each reader's answer, here and below, since documents promise both.
+pub fn register_rest<'a>(text: &'a [u8], read: RegisterRead) -> &'a [u8]
     ensures { RestTold text.entry.ref_ptr text.now read.next result.ref_ptr result.now }
 {
     rest_from(text, read.next)
 }
 
 // The rest of the caller's text behind a command, and the empty part at its end where the reader refused.
-pub fn command_rest(text: &[u8], read: CommandRead) -> &[u8]
+pub fn command_rest<'a>(text: &'a [u8], read: CommandRead) -> &'a [u8]
     ensures { RestTold text.entry.ref_ptr text.now read.next result.ref_ptr result.now }
 {
     rest_from(text, read.next)

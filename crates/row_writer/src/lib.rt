@@ -9,7 +9,7 @@ ghost use Rattle.printing.specs.Page.{Fits, Adds};
 ghost use Rattle.printing.specs.Told.{Told, written_of};
 ghost use Rattle.row_writer.specs.Row.{pair_text, perm_text, member_text, cell_text};
 
-use printing::{Line, Page, Written};
+use printing::{Page, Written};
 use registers::Register;
 use rights::{Header, Office, Permission, Refusal};
 
@@ -53,9 +53,8 @@ fn put_pair(page: &mut Page, by: Office, to: Office)
     requires { Fits (pair_text by.0 to.0) page.old }
     ensures { Adds (pair_text by.0 to.0) page.old page.new }
 {
-    let pair = [Line(b"by=", by.0 as u32), Line(b"to=", to.0 as u32)];
     let room = &mut page.room[page.at..];
-    page.at += printing::write_lines(&pair, room).size;
+    page.at += printing::write_two(b"by=", by.0 as u32, b"to=", to.0 as u32, room).size;
 }
 
 // Writes the permission's line of a record.
